@@ -6,7 +6,6 @@ import argparse
 import csv
 import math
 import random
-import subprocess
 from collections.abc import Iterator
 from dataclasses import dataclass
 from pathlib import Path
@@ -16,7 +15,7 @@ from .config import DIRECTIONS, Configuration, TransportChannel, parts_of, read_
 from .events import Flip, OnLeg, Pass, Unit
 from .faults import BadInput, run_command
 from .iub import read_frame
-from .node import program_of
+from .node import program_of, report_of
 from .timeline import ticks_of_report, values_of
 from .values import Bad, BadTti, Differs, Iub, Told
 
@@ -96,14 +95,7 @@ def run(it: Measuring, rate: float) -> list[tuple[int, Told]]:
     """What a run tells, and when."""
     command = ['link'] if it.legs is None else ['soft', str(it.legs)]
     text = f'{it.text}\n---\n' + ''.join(line + '\n' for line in script_of(it, rate))
-    try:
-        done = subprocess.run([it.program, *command], input=text.encode(), capture_output=True)
-    except OSError as fault:
-        raise BadInput(f'{it.program}: {fault.strerror}; name the program by --dch') from None
-    lines = done.stdout.decode().split('\n')[:-1]
-    if done.returncode:
-        told = lines[-1] if lines else done.stderr.decode().strip()
-        raise BadInput(f'dch {command[0]} ended with status {done.returncode}: {told}')
+    lines = report_of(it.program, command, text)
     told = values_of(lines, 'the report', it.configuration.is_transparent)
     return list(ticks_of_report(it.configuration, command[0], told))
 

@@ -81,12 +81,12 @@ class Frames:
         it, command = moment.what, self.command
         if isinstance(it, TakeIub) and command in ('nodeb', 'rnc'):
             way, offset = ('down', 2000) if command == 'nodeb' else ('up', -1000)
-            self.sent(moment, way, offset, it.set, it.octets, [0])
+            self.sent(moment, it, way, offset, [0])
         elif isinstance(it, Iub):
             offset = 0 if it.direction == 'down' else 9000
             is_combined = command == 'soft' and it.direction == 'up' and moment.leg is None
             legs = [] if is_combined else self.legs if moment.leg is None else [moment.leg]
-            self.sent(moment, it.direction, offset, it.set, it.octets, legs)
+            self.sent(moment, it, it.direction, offset, legs)
         elif not moment.from_script and command in ('link', 'soft') and not isinstance(it, (Phy, PhyNone)):
             told: Plain = it  # type: ignore[assignment]
             text = line_of(told if moment.leg is None else Leg(moment.leg, told))
@@ -94,13 +94,14 @@ class Frames:
             self.lines.append((self.time, text))
             self.remark(moment, told, text)
 
-    def sent(self, moment: Moment, way: str, offset: int, frame_set: int, octets: bytes, legs: list[int]) -> None:
-        moment.configuration.of_set(way, frame_set)
+    def sent(self, moment: Moment, frame: Iub | TakeIub, way: str, offset: int, legs: list[int]) -> None:
+        """An Iub frame, which is sent so many microseconds after its radio frame begins, on each of these legs."""
+        moment.configuration.of_set(way, frame.set)
         for leg in legs:
             self.time = max(self.time + 100, 10000 * (moment.tick + 1) + offset)
             remarks = [damage.line for at in self.damage for damage in [at.what] if isinstance(damage, (LoseIub, Spoil))
-                       and (at.tick, damage.direction, damage.set, at.leg or 0) == (moment.tick, way, frame_set, leg)]
-            self.frames.append(Sent(self.time, way, frame_set, octets, leg, moment.configuration, remarks))
+                       and (at.tick, damage.direction, damage.set, at.leg or 0) == (moment.tick, way, frame.set, leg)]
+            self.frames.append(Sent(self.time, way, frame.set, frame.octets, leg, moment.configuration, remarks))
 
     def remark(self, moment: Moment, it: Plain, text: str) -> None:
         """Puts a line of the report with the last frame of the set that it is about."""
@@ -291,8 +292,11 @@ def main() -> None:
         entries = [(frame.time, entries_of(frame)) for frame in found.frames]
         output.write_text(as_log(entries + [note(time, text) for time, text in found.lines]))
         return
-    for text in [text for part in run.configuration.parts() for text in misread(part)]:
-        print(f'dch-capture: {text}; {output.stem}.out would be read as it is', file=sys.stderr)
+    for part in run.configuration.parts():
+        when = '' if part is run.configuration or not run.configuration.later \
+            else f' from radio frame {run.configuration.later[0]} on'
+        for text in misread(part):
+            print(f'dch-capture: {text}{when}; {output.stem}.out would be read as it is', file=sys.stderr)
     output.write_bytes(as_pcapng(run.configuration, found))
 
 

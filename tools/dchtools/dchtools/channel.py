@@ -6,9 +6,7 @@ from ctypes import byref, c_size_t
 from dataclasses import dataclass
 from types import TracebackType
 
-from .faults import Refused
-from .library import (BAD_TTI, DONE, REFUSED, SHORT, Format, Handle, Refusal, Status, Tti, answer, call, letters_of,
-                      library)
+from .library import BAD_TTI, DONE, SHORT, Format, Handle, Status, Tti, answer, call, letters_of, library, open_text
 from .values import BadTti
 
 DIRECTIONS = {'up': 0, 'down': 1}
@@ -38,17 +36,7 @@ class Channel:
 
     def __init__(self, text: str) -> None:
         self.handle = Handle()
-        octets, refusal, room = text.encode(), Refusal(), 200
-        while True:
-            why = ctypes.create_string_buffer(room)
-            status = answer('dch_channels_open', byref(self.handle), octets, len(octets), why, room, byref(refusal))
-            if status != SHORT:
-                break
-            room = refusal.length
-        if status == REFUSED:
-            raise Refused.of_line(why.raw[:refusal.length].decode().rstrip('\n'))
-        if status != DONE:
-            raise Status(status, 'dch_channels_open')
+        open_text('dch_channels_open', self.handle, text)
 
     def __enter__(self) -> Channel:
         return self

@@ -85,10 +85,6 @@ class Line:
     number: int
     text: str
 
-    @property
-    def words(self) -> list[str]:
-        return self.text.split(' ')
-
 
 def parts_of(text: str) -> tuple[list[str], int | None]:
     """The texts of one or two configurations, and N of the line `--- N` between them."""
@@ -111,6 +107,8 @@ def split_input(path: str | Path) -> tuple[str, list[Line]]:
 
 def read_configuration(text: str, name: str | Path) -> Configuration:
     """Reads one configuration, or two with a line `--- N` between them."""
+    if text.lstrip('\n').startswith('ends '):
+        raise BadInput(f'{name}: this is an input of pair, which has no configuration')
     try:
         texts, second = parts_of(text)
         found = [configuration_of(tomllib.loads(part)) for part in texts]

@@ -9,7 +9,7 @@ from dataclasses import dataclass
 from typing import Union
 
 from .faults import BadInput
-from .values import Data, letters, number, octets, written
+from .values import ENDS, Data, letters, named, number, octets, written
 
 
 @dataclass(frozen=True)
@@ -242,17 +242,27 @@ def phy_of(rest: list[str]) -> Event:
 def lose_of(rest: list[str]) -> Event:
     if rest[0] in IUB_WAYS:
         return LoseIub(IUB_WAYS[rest[0]], number(rest[1]))
-    return Lose(rest[0]) if rest[0] in WAYS else AtEnd('lose', rest[0])
+    return Lose(rest[0]) if rest[0] in WAYS else at_end('lose', rest)
+
+
+def at_end(word: str, rest: list[str]) -> AtEnd:
+    return AtEnd(word, named(rest[0], ENDS))
+
+
+def mask_of(text: str) -> int:
+    if len(text) != 2:
+        raise ValueError
+    return bytes.fromhex(text)[0]
 
 
 SIMPLE: dict[str, Callable[[list[str]], Event]] = {
     'iub': lambda rest: TakeIub(number(rest[0]), octets(rest[1])), 'phy': phy_of, 'lose': lose_of,
-    'tick': lambda rest: AtEnd('tick', rest[0]) if rest else Tick(),
+    'tick': lambda rest: at_end('tick', rest) if rest else Tick(),
     'down': lambda rest: Down(), 'change': lambda rest: Change(),
     'frame': lambda rest: Pass(number(rest[0]) if rest else 1),
-    'flip': lambda rest: Flip(rest[0], rest[1], number(rest[2])),
-    'spoil': lambda rest: Spoil(IUB_WAYS[rest[0]], number(rest[1]), number(rest[2]), bytes.fromhex(rest[3])[0]),
+    'flip': lambda rest: Flip(named(rest[0], WAYS), named(rest[1], ('d', 't')), number(rest[2])),
+    'spoil': lambda rest: Spoil(IUB_WAYS[rest[0]], number(rest[1]), number(rest[2]), mask_of(rest[3])),
     'ends': lambda rest: Ends(number(rest[0]), number(rest[1]), number(rest[2]), number(rest[3])),
-    'offer': lambda rest: Offer(rest[0], octets(rest[1])),
-    'build': lambda rest: AtEnd('build', rest[0]), 'arrive': lambda rest: AtEnd('arrive', rest[0]),
-    'reset': lambda rest: AtEnd('reset', rest[0])}
+    'offer': lambda rest: Offer(named(rest[0], ENDS), octets(rest[1])),
+    'build': lambda rest: at_end('build', rest), 'arrive': lambda rest: at_end('arrive', rest),
+    'reset': lambda rest: at_end('reset', rest)}

@@ -1,15 +1,29 @@
-"""The calls of a node, by which the command of the program is driven over pipes (`node`)."""
+"""The calls of a node, the same for both ways: over the program's pipes (`node`) and in process (`session`)."""
 from __future__ import annotations
 
 from abc import ABC, abstractmethod
 from types import TracebackType
-from typing import TypeVar
+from typing import Self
 
 from .events import (AtEnd, Block, Change, Damage, Down, Event, Flip, Free, Lose, LoseIub, MissPhy, Offer, OnLeg, Pass,
                      Spoil, TakeIub, TakePhy, Tick, Unit)
+from .faults import BadInput
 from .values import Data, Told
 
-Self = TypeVar('Self', bound='Teller')
+
+def whole_text(text: str) -> str:
+    """The text of one or two configurations, with its last line ended. No script may stand behind it."""
+    whole = text if text.endswith('\n') else text + '\n'
+    if '---' in whole.split('\n'):
+        raise BadInput('a line --- stands in the configuration, behind which a script begins')
+    return whole
+
+
+def first_cfn(start: int) -> int:
+    """The first CFN, which is 8 times `start`."""
+    if not 0 <= start < 32:
+        raise BadInput(f'start is 0 to 31, and not {start}')
+    return 8 * start
 
 
 class Teller(ABC):
@@ -23,7 +37,7 @@ class Teller(ABC):
     def close(self) -> None:
         """Ends the work; a second call does nothing."""
 
-    def __enter__(self: Self) -> Self:
+    def __enter__(self) -> Self:
         return self
 
     def __exit__(self, kind: type[BaseException] | None, fault: BaseException | None,

@@ -20,8 +20,10 @@ STATUSES = {
     5: 'a number stands for nothing', 6: 'a length does not fit the other arguments',
     7: "a bit is neither '0' nor '1', or a channel bit neither of them nor '-'", 8: 'the configuration is refused',
     9: 'a buffer is too short', 10: 'a channel is not loaded in the format of the combination',
-    11: 'a radio frame of the TTI is missing, or has another format'}
-DONE, REFUSED, SHORT, BAD_TTI = 0, 8, 9, 11
+    11: 'a radio frame of the TTI is missing, or has another format',
+    12: 'what the node told before is not pulled yet', 13: 'all that the node told is pulled',
+    14: 'no second configuration is to become active now'}
+DONE, REFUSED, SHORT, BAD_TTI, NOTHING = 0, 8, 9, 11, 13
 OUTPUTS = {'none': 1, 'half': 2, 'third': 3}
 
 
@@ -57,6 +59,11 @@ class Tti(Structure):
     _fields_ = [('format', c_uint8), ('bad_frame', c_uint8), ('blocks', c_size_t), ('size', c_size_t)]
 
 
+class Kind(Structure):
+    _fields_ = [('kind', c_uint8), ('direction', c_uint8), ('number', c_uint8), ('more', c_uint8), ('tfci', c_size_t),
+                ('length', c_size_t)]
+
+
 HANDLE = POINTER(Handle)
 TEXT = [c_char_p, c_size_t]  # octets or letters, and how many there are
 ARGUMENTS: dict[str, list[Any]] = {
@@ -71,7 +78,13 @@ ARGUMENTS: dict[str, list[Any]] = {
     'dch_channels_load': [HANDLE, c_uint8, c_uint8, c_uint8, *TEXT],
     'dch_channels_write': [HANDLE, c_uint8, c_uint8, c_uint16, *TEXT, *TEXT],
     'dch_channels_take': [HANDLE, c_uint8, c_uint8, *TEXT, *TEXT], 'dch_channels_miss': [HANDLE, c_uint8, c_uint8],
-    'dch_channels_read': [HANDLE, c_uint8, c_uint8, *TEXT, *TEXT, POINTER(Tti)]}
+    'dch_channels_read': [HANDLE, c_uint8, c_uint8, *TEXT, *TEXT, POINTER(Tti)],
+    **{f'dch_{node}_open': [HANDLE, *TEXT, c_uint8, *TEXT, POINTER(Refusal)] for node in ('rnc', 'ue', 'nodeb')},
+    'dch_node_unit': [HANDLE, c_uint8, *TEXT], 'dch_node_unit_bits': [HANDLE, c_uint8, *TEXT],
+    'dch_node_block': [HANDLE, c_uint16, c_uint8], 'dch_node_iub': [HANDLE, c_uint8, *TEXT],
+    'dch_node_phy': [HANDLE, *TEXT, *TEXT],
+    **{f'dch_node_{event}': [HANDLE] for event in ('miss', 'down', 'tick', 'change')},
+    'dch_next': [HANDLE, POINTER(Kind), *TEXT]}
 
 
 def library_path() -> str | None:
@@ -105,6 +118,21 @@ def call(name: str, *arguments: Any) -> None:
     status = answer(name, *arguments)
     if status != DONE:
         raise Status(status, name)
+
+
+def open_text(opening: str, handle: Handle, text: str, *behind: int) -> None:
+    """Opens a handle for the text of a configuration. One that isn't accepted raises `Refused`."""
+    octets, refusal, room = text.encode(), Refusal(), 200
+    while True:
+        why = ctypes.create_string_buffer(room)
+        status = answer(opening, byref(handle), octets, len(octets), *behind, why, room, byref(refusal))
+        if status != SHORT:
+            break
+        room = refusal.length
+    if status == REFUSED:
+        raise Refused.of_line(why.raw[:refusal.length].decode().rstrip('\n'))
+    if status != DONE:
+        raise Status(status, opening)
 
 
 def letters_of(text: str) -> tuple[bytes, int]:

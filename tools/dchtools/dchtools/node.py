@@ -16,7 +16,7 @@ from typing import Literal, overload
 from .config import Configuration, read_configuration, transparency
 from .events import Change, Ends, Event, Offer, Tick, Unit
 from .faults import BadInput, Ended, Refused
-from .interface import LinkCalls, NodeBCalls, PairCalls, RncCalls, Teller, UeCalls
+from .interface import LinkCalls, NodeBCalls, PairCalls, RncCalls, Teller, UeCalls, first_cfn, whole_text
 from .values import Told, value_of
 
 QUIET = 0.2  # seconds without an answer, after which none is expected where no probe can be sent
@@ -32,6 +32,19 @@ def program_of(program: str | Path | None = None) -> str:
         if os.access(above / PROVED, os.X_OK):
             return str(above / PROVED)
     return 'dch'
+
+
+def report_of(program: str, words: Sequence[str], text: str) -> list[str]:
+    """The lines with which a command of the program answers a whole input."""
+    try:
+        done = subprocess.run([program, *words], input=text.encode(), capture_output=True)
+    except OSError as fault:
+        raise BadInput(f'{program}: {fault.strerror}; name the program by --dch') from None
+    lines = done.stdout.decode().splitlines()
+    if done.returncode:
+        why = lines[-1] if lines else done.stderr.decode().strip()
+        raise BadInput(f'dch {words[0]} ended with status {done.returncode}: {why}')
+    return lines
 
 
 class Piped(Teller):
@@ -132,10 +145,7 @@ class Configured(Piped):
     """A command with a configuration, or two."""
 
     def __init__(self, text: str, words: Sequence[str] = (), start: int = 0, program: str | Path | None = None) -> None:
-        whole = text if text.endswith('\n') else text + '\n'
-        if '---' in whole.split('\n'):
-            raise BadInput('a line --- stands in the configuration, behind which a script begins')
-        super().__init__(whole + '---\n', [*words, '--start', str(start)], program)
+        super().__init__(whole_text(text) + '---\n', [*words, '--start', str(first_cfn(start) // 8)], program)
         try:
             self.configuration = self.active = read_configuration(text, 'the configuration')
         except BadInput:

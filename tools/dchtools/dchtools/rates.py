@@ -3,9 +3,9 @@
 from __future__ import annotations
 
 import argparse
+import itertools
 import math
 import random
-import subprocess
 import tomllib
 from collections.abc import Iterable, Iterator
 from dataclasses import dataclass
@@ -14,7 +14,7 @@ from typing import Any
 
 from .config import DIRECTIONS, Configuration, TransportChannel, parts_of, read_configuration, split_input
 from .faults import BadInput, run_command
-from .node import program_of
+from .node import program_of, report_of
 from .timeline import values_of
 from .values import GotBits, Phy, PhyNone, Told
 
@@ -22,7 +22,8 @@ HELP = """
 A channel's bits are found by their change. Transport blocks of zeros have parity bits and coded bits of zeros. So in a
 run in which one channel alone sends other blocks, each channel bit that is a one is that channel's. Blocks at random
 reach them all, but for filler and padding, which stay zeros; what is sent beside them tells how many these are. For
-such runs each channel gets one transparent bearer, and all combinations but one are blocked.
+such runs each channel gets one transparent bearer, and all combinations but one are blocked. Of two configurations
+each has runs of its own, and its part of the page.
 """
 REPEATS = 40  # TTIs with blocks at random; in all of them a bit stays zero once in 2^40 times
 CODE_BLOCK, TAIL = 504, 8
@@ -109,13 +110,7 @@ def run(it: Counting, way: str, combination: int, frames: int) -> list[str]:
     """The channel bits of the radio frames of a run, in which all that is sent comes over."""
     lines = list(script_of(it, way, combination, frames))
     text = with_plain_bearers(it, way) + '\n'.join(['---', *lines, ''])
-    try:
-        done = subprocess.run([it.program, 'link'], input=text.encode(), capture_output=True)
-    except OSError as fault:
-        raise BadInput(f'{it.program}: {fault.strerror}; name the program by --dch') from None
-    told = done.stdout.decode().splitlines()
-    if done.returncode:
-        raise BadInput(f'dch link ended with status {done.returncode}: {told[-1] if told else done.stderr.decode()}')
+    told = report_of(it.program, ['link'], text)
     values: list[Told] = list(values_of(told, 'the report', lambda bearer: True))
     came = sum(isinstance(value, GotBits) for value in values)
     if PhyNone() in values or came != sum(line.startswith('unit ') for line in lines):
@@ -195,7 +190,8 @@ def downlink_rows(it: Counting) -> Iterator[list[object]]:
             first = next((j for j, formats in enumerate(it.combinations('down')) if formats[at] == form), None)
             if first is None or not with_parity(channel, form):
                 continue
-            counts.setdefault(first, count(it, 'down', first))
+            if first not in counts:
+                counts[first] = count(it, 'down', first)
             bits = counts[first].bits[at]
             after = sum(bits) * channel.tti // (10 * len(bits))
             yield [at, f'{number} x {size}', change(coded(channel, form), after),
@@ -206,19 +202,34 @@ def shown(formats: list[int]) -> str:
     return '[' + ','.join(map(str, formats)) + ']'
 
 
-def page(it: Counting, name: str, head: list[str]) -> Iterator[str]:
-    yield from (f'# {name}', '', *head, *([''] if head else []))
+def page(texts: list[str], configuration: Configuration, name: str, program: str) -> Iterator[str]:
+    """The lines of the page: a part for each configuration, and a heading before that of the second one."""
+    titles = [f'# {name}', f'## From radio frame {configuration.later[0]}' if configuration.later else '']
+    for title, text, part in zip(titles, texts, configuration.parts()):
+        yield from (title, '', *comment(text))
+        yield from part_of_page(Counting(tomllib.loads(text), part, program), title.split(' ')[0] + '#')
+
+
+def comment(text: str) -> list[str]:
+    """The comment with which a configuration begins, and an empty line behind it."""
+    front = itertools.takewhile(lambda line: line.startswith('#'), text.split('\n'))
+    lines = [line.removeprefix('#').strip() for line in front]
+    return [*lines, ''] if lines else []
+
+
+def part_of_page(it: Counting, level: str) -> Iterator[str]:
+    """The tables of one configuration, under headings of this level."""
     up, down = (it.configuration.channels[way] for way in DIRECTIONS)
     for title, channels in [('Channels', up)] if up == down else [('Uplink channels', up), ('Downlink channels', down)]:
-        yield from (f'## {title}', '')
+        yield from (f'{level} {title}', '')
         columns = 'Channel', 'TTI', 'Code', 'Parity', 'Blocks', 'Bits with parity', 'Coded bits of a TTI'
         yield from table(columns, channel_rows(channels))
-    yield from ('## Uplink', '', 'Bits of a radio frame, before and after rate matching.', '')
+    yield from (f'{level} Uplink', '', 'Bits of a radio frame, before and after rate matching.', '')
     columns = 'Combination', 'Radio frame', *(f'Channel {at}' for at in range(len(up)))
     yield from table(columns, uplink_rows(it))
     cells = it.configuration.places['down'][0]
     about = f'Bits of a TTI, before and after rate matching. A radio frame has {cells} bits.'
-    yield from ('## Downlink', '', about, '')
+    yield from (f'{level} Downlink', '', about, '')
     yield from table(('Channel', 'Blocks', 'Bits of a TTI', 'In a radio frame'), downlink_rows(it))
 
 
@@ -226,15 +237,13 @@ def main() -> None:
     words = argparse.ArgumentParser('dch-rates', description=__doc__, epilog=HELP,
                                     formatter_class=argparse.RawDescriptionHelpFormatter)
     words.add_argument('configuration', metavar='CONFIGURATION', type=Path,
-                       help='a configuration in TOML; of two the first, and what follows a line --- is passed over')
+                       help='a configuration in TOML, or two; what follows a line --- is passed over')
     words.add_argument('--dch', metavar='PROGRAM', help='the program (DCH, or that of this tree)')
     given = words.parse_args()
-    text = parts_of(split_input(given.configuration)[0])[0][0]
+    text, _ = split_input(given.configuration)
     configuration = read_configuration(text, given.configuration)
-    it = Counting(tomllib.loads(text), configuration, program_of(given.dch))
-    lines = text.split('\n')
-    head = lines[:next((at for at, line in enumerate(lines) if not line.startswith('#')), 0)]
-    print('\n'.join(page(it, given.configuration.stem, [line.removeprefix('#').strip() for line in head])).rstrip('\n'))
+    lines = page(parts_of(text)[0], configuration, given.configuration.stem, program_of(given.dch))
+    print('\n'.join(lines).rstrip('\n'))
 
 
 def command() -> None:

@@ -179,7 +179,7 @@ def ticks_of_one(command: str, told: Iterable[Told]) -> Iterator[tuple[int, Told
     for it in told:
         if isinstance(it, (Phy, PhyNone)):
             tick, passed = passed, passed + 1
-        elif isinstance(it, Iub) and command == 'rnc':
+        elif isinstance(it, Iub) and command == 'rnc' and len(it.octets) > 1:
             cfn = it.octets[1]
             tick = max(tick, last[1] + (cfn - last[0]) % 256) if last else tick
             last = cfn, tick

@@ -38,6 +38,7 @@ sent, * sent again, ? asked for again, - acknowledged up to here.
 """
 COLUMNS = ('offered', 'sent', 'lost', 'asked again', 'handed up')
 ALL = -1
+OTHER = {'up': 'down', 'down': 'up', 'a': 'b', 'b': 'a'}
 SIGNS = '-o?*'
 Mark = tuple[int, int, str]
 
@@ -72,7 +73,7 @@ class Table:
             before.discard((pdu.number + 2048) % 4096)
         for other in pdus:
             if isinstance(other, StatusPdu):
-                self.status(tick, {'up': 'down', 'down': 'up', 'a': 'b', 'b': 'a'}[side], bearer, other)
+                self.status(tick, OTHER[side], bearer, other)
             elif isinstance(other, ResetPdu):
                 self.put(tick, side, bearer, 'sent', f'RESET{" ACK" if other.is_answer else ""} {other.number}')
 
@@ -177,8 +178,7 @@ class PairTable(Table):
 
     def __init__(self, run: Run) -> None:
         super().__init__()
-        told = [it for it in run.told]
-        at = 1  # behind `open`
+        told, at = run.told, 1  # behind `open`
         for number, event in run.script[1:]:
             self.line(number, event)
             while at < len(told) and belongs(event, told[at]):
@@ -189,7 +189,7 @@ class PairTable(Table):
 
     def line(self, number: int, event: Event) -> None:
         if isinstance(event, AtEnd) and event.what == 'lose':
-            self.put(number, other(event.end), 0, 'lost', 'PDU')
+            self.put(number, OTHER[event.end], 0, 'lost', 'PDU')
 
     def told(self, number: int, it: Told, event: Event) -> None:
         if isinstance(it, (EndTook, EndFull, EndWrong)) and isinstance(event, Offer):
@@ -198,12 +198,12 @@ class PairTable(Table):
         elif isinstance(it, EndSent):
             self.pdus(number, it.end, 0, 'am', [read_pdu('am', it.octets)])
         elif isinstance(it, EndGot):
-            self.put(number, other(it.end), 0, 'handed up', shown(it.octets))
+            self.put(number, OTHER[it.end], 0, 'handed up', shown(it.octets))
         elif isinstance(it, EndRestart):
             self.put(number, it.end, 0, 'lost', 'begins anew')
         elif isinstance(it, (EndOutside, EndPduBad, EndOverlong)):
             text = {EndOutside: 'outside', EndOverlong: 'overlong'}.get(type(it), '')
-            self.put(number, other(it.end), 0, 'lost', text or f'pdubad {getattr(it, "number")}')
+            self.put(number, OTHER[it.end], 0, 'lost', text or f'pdubad {getattr(it, "number")}')
 
 
 def belongs(event: Event, it: Told) -> bool:
@@ -213,10 +213,6 @@ def belongs(event: Event, it: Told) -> bool:
     if isinstance(event, Offer):
         return isinstance(it, (EndTook, EndFull, EndWrong))
     return isinstance(event, AtEnd) and isinstance(it, kinds.get(event.what, ())) and getattr(it, 'end') == event.end
-
-
-def other(end: str) -> str:
-    return 'b' if end == 'a' else 'a'
 
 
 def of_leg(moment: Moment, text: str) -> str:

@@ -5,6 +5,7 @@ import struct
 import unittest
 
 from dchtools import BadFrame, BadInput, packets
+from dchtools.capture import length_of
 from dchtools.config import Configuration, parts_of, read_configuration
 from dchtools.iub import Block, Frame, header_check, payload_check, read_frame, write_frame
 from dchtools.rlc import DataPdu, ResetPdu, StatusPdu, bearer_of, read_pdu
@@ -89,6 +90,35 @@ class Captures(unittest.TestCase):
         file = packets.pcapng([(5, packet, ['a remark']), (6, packet, [])])
         found = [packets.udp_of(link, octets) for link, octets in packets.read_packets(file, 'file')]
         self.assertEqual(found, [(b'\x0a\0\0\1', 7, b'\x0a\0\0\2', 8, b'abc')] * 2)
+
+    def test_what_stands_before_the_packet(self) -> None:
+        """Ethernet with VLAN tags or without, Linux cooked, and IP alone, by octets of a writer of its own."""
+        segment = struct.pack('>HHHH', 7, 8, 11, 0) + b'abc'
+        four = struct.pack('>BBHHHBBH4s4s', 0x45, 0, 31, 1, 0, 64, 17, 0, b'\x0a\0\0\1', b'\x0a\0\0\2') + segment
+        options = struct.pack('>BB6x', 17, 0)
+        six = struct.pack('>IHBB16s16s', 6 << 28, 19, 0, 64, b'\1' * 16, b'\2' * 16) + options + segment
+        for packet, kind, near, far in ((four, b'\x08\0', b'\x0a\0\0\1', b'\x0a\0\0\2'),
+                                        (six, b'\x86\xdd', b'\1' * 16, b'\2' * 16)):
+            for link, front in ((packets.ETHERNET, bytes(12) + kind), (packets.LINUX_COOKED, bytes(14) + kind),
+                                (packets.ETHERNET, bytes(12) + b'\x88\xa8\0\1\x81\0\0\2' + kind),
+                                (packets.RAW_IP, b'')):
+                self.assertEqual(packets.udp_of(link, front + packet + b'pad'), (near, 7, far, 8, b'abc'))
+        self.assertIsNone(packets.udp_of(packets.RAW_IP, four[:6] + b'\x20\0' + four[8:]))  # more of it comes
+        self.assertIsNone(packets.udp_of(packets.RAW_IP, four[:24]))
+
+    def test_sctp(self) -> None:
+        """A chunk of data (RFC 9260 3.3.1) with its length, number, stream, place and protocol, and padding."""
+        packet = packets.sctp(b'\x0a\0\0\1', b'\x0a\0\0\2', 29118, 3, 25, b'abcde')
+        self.assertEqual((packets.internet_checksum(packet[:20]), packet[9], len(packet)), (0, 132, 56))
+        ports, check, chunk = packet[20:28], packet[28:32], packet[32:]
+        self.assertEqual(ports[:4], struct.pack('>HH', 29118, 29118))
+        self.assertEqual(chunk, bytes.fromhex('0003 0015 00000003 0000 0002 00000019') + b'abcde' + bytes(3))
+        self.assertEqual(check, struct.pack('<I', packets.crc32c(ports + bytes(4) + chunk)))
+
+    def test_lengths_in_a_log(self) -> None:
+        """A length is one octet below 128, and otherwise has their number before it (X.690 8.1.3)."""
+        for length, octets in ((0, '00'), (127, '7f'), (128, '8180'), (255, '81ff'), (256, '820100')):
+            self.assertEqual(length_of(length).hex(), octets)
 
     def test_checksum_of_sctp(self) -> None:
         self.assertEqual(packets.crc32c(b'123456789'), 0xe3069283)

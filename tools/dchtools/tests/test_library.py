@@ -5,14 +5,17 @@ import ctypes
 import re
 import unittest
 
-from dchtools import BadTti, Blocks, Channel, Coder, Refused, Status, library
+from dchtools import BadInput, BadTti, Blocks, Channel, Coder, NodeB, Refused, Rnc, Status, Took, Ue, library
+from dchtools.config import read_configuration, transparency
+from dchtools.events import event_of
+from dchtools.values import line_of
 
-from .cases import top
+from .cases import Case, cases_of, top
 
 HEADER = top / 'include/dch.h'
 STRUCTURES = {
     'dch_handle': library.Handle, 'dch_cut': library.Cut, 'dch_vote': library.Vote, 'dch_refusal': library.Refusal,
-    'dch_format': library.Format, 'dch_tti': library.Tti}
+    'dch_format': library.Format, 'dch_tti': library.Tti, 'dch_told': library.Kind}
 TYPES = {'uint8_t': ctypes.c_uint8, 'uint16_t': ctypes.c_uint16, 'uint32_t': ctypes.c_uint32,
          'size_t': ctypes.c_size_t, 'bool': ctypes.c_bool, 'void *': ctypes.c_void_p}
 
@@ -90,3 +93,56 @@ class Coding(unittest.TestCase):
         with self.assertRaises(Refused) as caught:
             Channel(text.replace('crc = 12', 'crc = 13', 1))
         self.assertEqual(caught.exception.number, 12)
+
+
+FRAMES = ('iubdown', 'iubup', 'phydown', 'phyup')
+NODES: dict[str, type[Rnc] | type[Ue] | type[NodeB]] = {'rnc': Rnc, 'ue': Ue, 'nodeb': NodeB}
+
+
+def drive(case: Case) -> list[str]:
+    """The lines of what a node in process tells of a case; the last one is `refused` where it ends so."""
+    found: list[str] = []
+    try:
+        with NODES[case.command](case.text + '\n', case.start) as node:
+            found.append('open')
+            is_transparent = transparency(read_configuration(case.text, 'the configuration'))
+            for line in case.script:
+                found += map(line_of, node.tell(event_of(line, is_transparent)))
+    except (Refused, BadInput):
+        found.append('refused')
+    return found
+
+
+@unittest.skipUnless(library.library_path(), 'libdch.so is not found')
+class Nodes(unittest.TestCase):
+    def test_cases(self) -> None:
+        count = 0
+        for case in cases_of(*NODES):
+            if case.answer and case.answer[-1].endswith(' why=cut'):
+                continue  # The input ends within a line, and an event is a whole one.
+            got = drive(case)
+            if case.is_quiet:
+                got = [line for line in got if line.split(' ')[0] not in FRAMES]
+            wanted = [line.split(' ')[0] if line.startswith('refused ') else line for line in case.answer
+                      if not line.startswith('end ')]
+            with self.subTest(case.name):
+                self.assertEqual(got, wanted)
+            count += 1
+        self.assertGreater(count, 50)
+
+    def test_refusals(self) -> None:
+        text = (top / 'examples/speech.toml').read_text()
+        with Rnc(text) as rnc:
+            with self.assertRaises(Status) as caught:
+                rnc.block(999)
+            self.assertEqual(caught.exception.status, 5)
+            with self.assertRaises(Status) as caught:
+                rnc.change()
+            self.assertEqual(caught.exception.status, 14)
+            self.assertEqual(rnc.unit(4, b'hello'), [Took('down', 4)])
+        with self.assertRaises(Status) as caught:
+            rnc.tick()
+        self.assertEqual(caught.exception.status, 3)
+        with self.assertRaises(Refused) as refused:
+            Ue(text.replace('crc = 12', 'crc = 13', 1))
+        self.assertEqual(refused.exception.number, 12)

@@ -49,6 +49,7 @@ class Lines(unittest.TestCase):
                      'phyup 01', 'phyup 01 2', 'iubup 1', 'badtti up 0', 'sent up 00', 'opened'):
             with self.subTest(line), self.assertRaises(BadInput):
                 value_of(line)
-        for line in ('', 'unit', 'unit up 1', 'leg 1 tick', 'flip up d', 'spoil iubup 0 1', 'ends 1 2', 'jump'):
+        for line in ('', 'unit', 'unit up 1', 'leg 1 tick', 'flip up d', 'flip left d 1', 'flip up x 1', 'lose left',
+                     'spoil iubup 0 1', 'spoil iubup 0 1 0102', 'ends 1 2', 'build c', 'offer up 00', 'tick 1', 'jump'):
             with self.subTest(line), self.assertRaises(BadInput):
                 event_of(line)
