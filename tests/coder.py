@@ -274,6 +274,27 @@ def load(table, way, i, form, bits):
     return stages + [('interleaved', first_interleaved(cells, frames))]
 
 
+def places(table, way, i, form):
+    """Of each place of the interleaved cells of a TTI of channel i the coded bit that it shows, and the transport block bit that came in where that
+    was put out, each None where there is none."""
+    channel = channels(table, way)[i]
+    number, size = channel['formats'][form]
+    frames, code = frames_of(channel), channel['code']
+    # bits are marked by their numbers, from 1, and what is none of them by 0
+    attached = [mark for at in range(number) for mark in [*range(size * at + 1, size * (at + 1) + 1), *[0] * channel['crc']]]
+    tail, outputs = (0, 1) if code == 'none' else (8, len(GENERATORS[code]))
+    inputs = [mark for block in code_blocks(attached, code) for mark in block + [0] * tail for _ in range(outputs)]
+    cells = list(range(1, len(inputs) + 1))
+    if way == 'up':
+        cells = equalised(cells, frames)
+    else:
+        made_for, room = downlink_amounts(table, i, form)
+        cells = downlink_matched(cells, made_for, room * frames)
+        cells = cells + [0] * (room * frames - len(cells))
+    marks = [(cell, inputs[cell - 1] if cell else 0) for cell in first_interleaved(cells, frames)]
+    return [tuple(mark - 1 if mark else None for mark in pair) for pair in marks]
+
+
 def radio_frame(table, way, combination, cfn, loaded):
     """The stages of a radio frame, where `loaded` has of each channel the interleaved cells of its TTI."""
     side, formats = channels(table, way), table[way + 'link']['combinations'][combination]

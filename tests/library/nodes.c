@@ -141,7 +141,7 @@ static void pull(dch_handle *node) {
 static long read_hex(const char *hex) {
     size_t len = strlen(hex);
     if (!strcmp(hex, ".")) return 0;
-    if (len % 2 || strspn(hex, "0123456789abcdef") != len) return -1;
+    if (len % 2 || strspn(hex, "0123456789abcdefABCDEF") != len) return -1;
     for (size_t i = 0; i < len; i += 2) { unsigned octet; sscanf(hex + i, "%2x", &octet); octets[i / 2] = (uint8_t)octet; }
     return (long)(len / 2);
 }
@@ -259,6 +259,7 @@ static uint8_t happen_linked(char *line, int *frames) {
         return DCH_DONE;
     }
     if (sscanf(line, "%7s %7s %n", event, way, &at) == 2 && (!strcmp(event, "unit") || !strcmp(event, "block") || !strcmp(event, "free"))) {
+        if (strcmp(way, "up") && strcmp(way, "down")) return DCH_BAD_CODE;
         dch_handle *node = &nodes[!strcmp(way, "up") ? UE : RNC];
         char plain[1 << 14];
         snprintf(plain, sizeof plain, "%s %s", event, line + at);
@@ -296,6 +297,7 @@ static int run(const char *command, const char *name) {
     load(name, ".out", wanted);
     size_t all = without_false(wanted);
     int start = word_of("--start "), frames = 0, taken = 0;
+    if (len >= 4 && !strcmp(text + len - 4, "\n---")) text[len -= 3] = 0;
     char *script = strncmp(text, "---\n", 4) ? strstr(text, "\n---\n") : text;
     size_t config = script ? (size_t)(script - text) + (script != text) : len;
     quiet = word_of("--quiet") >= 0;
@@ -307,7 +309,9 @@ static int run(const char *command, const char *name) {
         opens open = is_link ? all_opens[i] : opener(command);
         status = open(&nodes[i], (uint8_t *)text, config, (uint8_t)(start < 0 ? 0 : 8 * start), why, sizeof why, &refusal);
         if (status == DCH_REFUSED) {
-            CHECK(!nodes[i].is_open && refusal.length == all && !memcmp(why, wanted, all));
+            int same = !nodes[i].is_open && refusal.length == all && !memcmp(why, wanted, all);
+            if (!same) printf("%s: is refused\n", name);
+            CHECK(same);
             return 0;
         }
         CHECK(status == DCH_DONE);
@@ -315,7 +319,8 @@ static int run(const char *command, const char *name) {
     say("open\n");
     for (char *at = script ? text + config + 4 : text + len; status == DCH_DONE && *at; ) {
         char *end = strchr(at, '\n');
-        if (!end || (is_link && !strncmp(wanted + given_len, "refused 50", 10) && !strchr("ubf", *at))) { status = DCH_BAD_CODE; break; }
+        int is_refused = !strncmp(wanted + given_len, "refused 50", 10), is_of_node = !strncmp(at, "unit ", 5) || !strncmp(at, "block ", 6) || !strncmp(at, "free ", 5);
+        if (!end || (is_link && is_refused && !is_of_node)) { status = DCH_BAD_CODE; break; }
         *end = 0;
         if (*at) {
             status = is_link ? happen_linked(at, &frames) : happen(&nodes[0], at, &frames);
