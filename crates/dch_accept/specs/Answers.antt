@@ -57,7 +57,8 @@ IsClearBefore config Up = Unit {0}
 IsClearBefore config Down = IsClearSide config.uplink.side (uplink_copies config.uplink)
 
 -- the first collision of a configuration, of the block of zeros and the first block in text order that collides with it
-pub record IsFirstCollision (config : Config) (dir : Dir) (i f r : ℕ) (sequence : List ℕ) (first second : List Bit) : Type 0 where
+pub record IsFirstCollision (config : Config) (dir : Dir) (i f r : ℕ) (sequence : List ℕ)
+    (first second : List Bit) : Type 0 where
   pub directions : IsClearBefore config dir
   pub collides : IsFirstOf (side_of config dir) (copies_of config dir) i f sequence r second
   pub zeros : first ≡ replicate (length second) Zero
@@ -67,7 +68,8 @@ abbrev pub IsUnsearched : Config → Refusal → Type 0
 IsUnsearched config NoMemory = Unit {0}
 IsUnsearched config (NoRate c) = ⊥
 IsUnsearched config (Sequences count) = ⊥
-IsUnsearched config (Collision dir i f r sequence first second) = IsFirstCollision config dir i f r sequence first second
+IsUnsearched config (Collision dir i f r sequence first second) =
+    IsFirstCollision config dir i f r sequence first second
 
 -- or there is none
 abbrev pub IsSearched : {A : Type 0} → Config → Result A Refusal → Type 0
@@ -75,7 +77,8 @@ IsSearched config (Ok nothing) = IsClear config
 IsSearched config (Err refusal) = IsUnsearched config refusal
 
 -- it stands where the tests before it are passed
-pub record IsCollision (config : Config) (dir : Dir) (i f r : ℕ) (sequence : List ℕ) (first second : List Bit) : Type 0 where
+pub record IsCollision (config : Config) (dir : Dir) (i f r : ℕ) (sequence : List ℕ)
+    (first second : List Bit) : Type 0 where
   pub rates : HaveAllRates config
   pub few : count_of config ≤ 2048
   pub is : IsFirstCollision config dir i f r sequence first second

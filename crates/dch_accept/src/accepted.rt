@@ -151,7 +151,8 @@ fn look_for_collisions(
 /// A collision as a refusal: `first` is the block of zeros.
 fn collision(alloc: Global, dir: Dir, found: Found) -> Result<Refusal, NoMemory>
     ensures { IfOk result (λ refusal. refusal ≡
-        Refusal.Collision dir found.channel found.format found.block found.sequence (replicate (length found.second) Zero) found.second) }
+        Refusal.Collision dir found.channel found.format found.block found.sequence
+        (replicate (length found.second) Zero) found.second) }
 {
     let first = zeros(alloc, found.second.len())?;
     Ok(Refusal::Collision {

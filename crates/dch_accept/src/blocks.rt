@@ -132,7 +132,8 @@ impl TtiBlocks {
         requires opened { HoldsTtis (side_of accepted.now.config dir) self.old.room }
         requires channel { channel < length (side_of accepted.now.config dir).channels }
         requires format { format < length (channel_at (side_of accepted.now.config dir) channel).formats }
-        ensures { self.new ≡ zero_blocks format (format_at (channel_at (side_of accepted.now.config dir) channel) format) self.old.room }
+        ensures { self.new ≡ zero_blocks format (format_at (channel_at (side_of accepted.now.config dir) channel)
+            format) self.old.room }
     {
         let trch = accepted.config().side(dir).channel(usize::from(channel));
         self.clear(format, trch.format(usize::from(format)));

@@ -83,7 +83,8 @@ one_if false = 0
 -- how many PDUs of so many octets it offers to send: a due status, a due MRW, and the data PDUs that could follow one
 -- another
 abbrev pub offers_to_send : Rules → ℕ → Entity → ℕ
-offers_to_send rules size e = one_if (is_due e.receiver) + one_if (mrw_due e.sender.discard) + available rules (size - 2) e.sender
+offers_to_send rules size e = one_if (is_due e.receiver) + one_if (mrw_due e.sender.discard) +
+    available rules (size - 2) e.sender
 
 -- a PDU that comes, as it is read. A status may ride on a data PDU
 pub data Pdu : Type 0 where

@@ -87,7 +87,8 @@ impl RxWindow {
         requires vacant { is_kept self.old.ring.items i ≡ false }
         requires room { length body.now.indicators + length body.now.octets + 2 ≤ self.old.pdu }
         requires small { length body.now.indicators + length body.now.octets ≤ 124 }
-        ensures { self.new ≡ with_ring (buffer (put i (body_in body.now) self.old.ring.items) self.old.ring.capacity) self.old }
+        ensures { self.new ≡ with_ring (buffer (put i (body_in body.now) self.old.ring.items) self.old.ring.capacity)
+            self.old }
     {
         if let Some(block) = store(&mut self.pool, body) {
             put_at(&mut self.pool, &mut self.ring, i, block);

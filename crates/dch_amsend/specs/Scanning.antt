@@ -48,7 +48,8 @@ after_pdu rules h place f scan = record {
 -- after the PDUs from a place on
 abbrev pub after_pdus : AmRules → SduDiscard → ℕ → List SentPdu → Scan → Scan
 after_pdus rules h place [] scan = scan
-after_pdus rules h place (f ∷ in_flight) scan = after_pdus rules h (place + 1) in_flight (after_pdu rules h place f scan)
+after_pdus rules h place (f ∷ in_flight) scan = after_pdus rules h (place + 1) in_flight
+    (after_pdu rules h place f scan)
 
 -- how many SDUs end in so many PDUs in front
 abbrev pub ends_below : ℕ → List SentPdu → ℕ
@@ -67,7 +68,8 @@ is_next_old rules h sdu = nat_lt sdu (length h.ages) && is_old rules h sdu
 
 -- the first requested PDU from a place on, where one that was built often enough is discarded, or the end
 abbrev pub requested_place : AmRules → ℕ → List SentPdu → ℕ
-requested_place rules place in_flight = if nat_lt 0 rules.discard_sent then place + first_requested (drop place in_flight) else length in_flight
+requested_place rules place in_flight = if nat_lt 0 rules.discard_sent
+    then place + first_requested (drop place in_flight) else length in_flight
 
 -- the next PDU that is looked at: the one at the place while an SDU goes on that began in one that was built often
 -- enough, or where the next SDU is old enough

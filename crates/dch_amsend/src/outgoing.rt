@@ -131,14 +131,17 @@ impl Outgoing {
 
     /// A PDU can be built that isn't requested: a new one, or the last one again.
     fn has_unrequested(&self) -> bool
-        ensures { result ≡ ((nat_lt (length self.now.line.in_flight) self.now.line.window && is_left (unsent_of self.now.tx_buffer)) || (self.now.line.owed && nat_lt 0 (length self.now.line.in_flight))) }
+        ensures { result ≡ ((nat_lt (length self.now.line.in_flight) self.now.line.window &&
+            is_left (unsent_of self.now.tx_buffer)) || (self.now.line.owed &&
+            nat_lt 0 (length self.now.line.in_flight))) }
     {
         self.has_new() || self.has_last()
     }
 
     /// A new PDU can be built: unsent matter is left, and the window has room.
     fn has_new(&self) -> bool
-        ensures { result ≡ (nat_lt (length self.now.line.in_flight) self.now.line.window && is_left (unsent_of self.now.tx_buffer)) }
+        ensures { result ≡ (nat_lt (length self.now.line.in_flight) self.now.line.window &&
+            is_left (unsent_of self.now.tx_buffer)) }
     {
         self.line.len() < self.line.window() && self.tx_buffer.is_left()
     }

@@ -173,7 +173,8 @@ impl AmSend {
 
     /// Units may be discarded now: a rule for it is on, and no discard runs.
     fn may_discard(&self) -> bool
-        ensures { result ≡ ((nat_lt 0 self.now.rules.discard_age || nat_lt 0 self.now.rules.discard_sent) && not (is_some self.now.outgoing.line.running)) }
+        ensures { result ≡ ((nat_lt 0 self.now.rules.discard_age || nat_lt 0 self.now.rules.discard_sent) &&
+            not (is_some self.now.outgoing.line.running)) }
     {
         (self.rules.discard_age > 0 || self.rules.discard_sent > 0)
             && !self.outgoing.is_discarding()

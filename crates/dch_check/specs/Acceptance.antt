@@ -61,4 +61,5 @@ abbrev pub acceptance_refusal : Which → Refusal → Option (List ℕ)
 acceptance_refusal which NoMemory = None
 acceptance_refusal which (NoRate c) = Some (of_combination which c)
 acceptance_refusal which (Sequences n) = Some (of_count which n)
-acceptance_refusal which (Collision dir channel format block sequence first second) = Some (of_block which dir channel format block ++ of_collision sequence first second)
+acceptance_refusal which (Collision dir channel format block sequence first second) =
+    Some (of_block which dir channel format block ++ of_collision sequence first second)

@@ -87,7 +87,8 @@ pub record ArePlannedAs (kind : FrontKind) (text : List ℕ) (accepted : Configu
 
 -- what stands in front is complete and accepted, and the lines behind it are followed from the state in which the
 -- command is opened for it. At hand before are no more bytes than what is left of the piece with which it is complete
-pub record FollowsScript {S : Type 0} (kind : FrontKind) (semantics : Semantics S) (opened : Configurations → S) (source sink : End) (taken written : List ℕ) (after : S) (outcome : Outcome) : Type 0 where
+pub record FollowsScript {S : Type 0} (kind : FrontKind) (semantics : Semantics S) (opened : Configurations → S)
+    (source sink : End) (taken written : List ℕ) (after : S) (outcome : Outcome) : Type 0 where
   pub ended : HasEnded source taken
   pub accepted : Configurations
   pub is : ArePlannedAs kind (configuration_of taken) accepted
@@ -100,7 +101,8 @@ pub record FollowsScript {S : Type 0} (kind : FrontKind) (semantics : Semantics 
   pub part : List ℕ
   pub rest : part ≡ script_of (old ++ piece)
   pub script : script_of taken ≡ part ++ later
-  pub answers : AnswersTaken semantics source sink (script_begin taken (opened accepted)) after part later written outcome
+  pub answers : AnswersTaken semantics source sink (script_begin taken (opened accepted))
+      after part later written outcome
 
 -- the status of an outcome
 abbrev pub outcome_status : Outcome → Status
@@ -112,7 +114,8 @@ outcome_status Lacking = NoMemory
 outcome_status TookTooMuch = TooLong
 
 -- how a run ends with the line `open`; no line wants memory
-pub record EndsLate {S : Type 0} (kind : FrontKind) (semantics : Semantics S) (opened : Configurations → S) (source sink : End) (taken written : List ℕ) (after : S) (status : Status) : Type 0 where
+pub record EndsLate {S : Type 0} (kind : FrontKind) (semantics : Semantics S) (opened : Configurations → S)
+    (source sink : End) (taken written : List ℕ) (after : S) (status : Status) : Type 0 where
   pub outcome : Outcome
   pub follows : FollowsScript kind semantics opened source sink taken written after outcome
   pub same : status ≡ outcome_status outcome
@@ -120,7 +123,8 @@ pub record EndsLate {S : Type 0} (kind : FrontKind) (semantics : Semantics S) (o
 
 -- the source gave some bytes, and the sink took the answer to them; where the line `open` was written this holds of the
 -- command's state afterwards
-pub record RunsConfigured {S : Type 0} (kind : FrontKind) (semantics : Semantics S) (opened : Configurations → S) (Holds : S → Type 0) (source sink : End) (status : Status) : Type 0 where
+pub record RunsConfigured {S : Type 0} (kind : FrontKind) (semantics : Semantics S) (opened : Configurations → S)
+    (Holds : S → Type 0) (source sink : End) (status : Status) : Type 0 where
   pub taken : List ℕ
   pub written : List ℕ
   pub takes : Consumes source.before source.now taken
@@ -137,7 +141,8 @@ pub record EndsUnopened (kind : FrontKind) (source sink : End) (status : Status)
   pub answers : EndsEarly kind source sink taken written status
 
 -- what stands in front was taken and accepted, and nothing is written
-pub record IsConfigured (kind : FrontKind) (source sink : End) (room : List ℕ) (front : TakenConfig) (accepted : Configurations) : Type 0 where
+pub record IsConfigured (kind : FrontKind) (source sink : End) (room : List ℕ) (front : TakenConfig)
+    (accepted : Configurations) : Type 0 where
   pub whole : IsTakenConfig source room front
   pub is : ArePlannedAs kind (settled front.section) accepted
   pub unwritten : sink.now ≡ sink.before
@@ -160,7 +165,8 @@ opened_begin front state = record {
 }
 
 -- the lines that are left were followed: those that are pending alone, where the input has ended
-pub record FollowsLast {S : Type 0} (semantics : Semantics S) (source sink : End) (old : Progress S) (after : S) (part : List ℕ) (outcome : Outcome) : Type 0 where
+pub record FollowsLast {S : Type 0} (semantics : Semantics S) (source sink : End) (old : Progress S) (after : S)
+    (part : List ℕ) (outcome : Outcome) : Type 0 where
   pub now : Option (List ℕ)
   pub follows : FollowsInput semantics (span (Some []) now 0 0) sink old after part outcome
   pub unread : source.now ≡ source.before
@@ -172,10 +178,12 @@ FollowsRest semantics at_end source sink old after part outcome =
     (FollowsInput semantics source sink old after part outcome)
 
 abbrev pub FollowsBehind : {S : Type 0} → Semantics S → End → End → TakenConfig → S → S → List ℕ → Outcome → Type 0
-FollowsBehind semantics source sink front state after part outcome = FollowsRest semantics front.pending.at_end source sink (opened_begin front state) after part outcome
+FollowsBehind semantics source sink front state after part outcome =
+    FollowsRest semantics front.pending.at_end source sink (opened_begin front state) after part outcome
 
 -- the work with the lines ended, and not well
-pub record StopsBehind {S : Type 0} (semantics : Semantics S) (source sink : End) (front : TakenConfig) (state : S) (part : List ℕ) (status : Status) : Type 0 where
+pub record StopsBehind {S : Type 0} (semantics : Semantics S) (source sink : End) (front : TakenConfig) (state : S)
+    (part : List ℕ) (status : Status) : Type 0 where
   pub after : S
   pub outcome : Outcome
   pub follows : FollowsBehind semantics source sink front state after part outcome

@@ -66,7 +66,8 @@ pub fn follow_script<C: LineHandler + Drop, S: Source, K: Sink>(
     requires few { lines_before front.now + (front.now.pending.to - front.now.pending.from) ≤ front.now.read }
     ensures { (state : C.State) → C.represents state handler →
         FollowsTo C.semantics C.represents (end_of S.left S.faults source.old source.new)
-        (end_of K.taken K.faults sink.old sink.new) front.now state (slice_range piece.old front.now.pending.from front.now.pending.to) result }
+        (end_of K.taken K.faults sink.old sink.new) front.now state
+        (slice_range piece.old front.now.pending.from front.now.pending.to) result }
 {
     let Ok(mut processor) = LineProcessor::open(alloc, handler, b"open\n", front.offset(), ROOM)
     else {
@@ -95,7 +96,10 @@ fn follow_rest<C: LineHandler, S: Source, K: Sink>(
     requires inside { pending.to ≤ PIECE }
     requires within { processor.old.bytes + (pending.to - pending.from) ≤ LIMIT }
     requires new { processor.old.line ≡ [] }
-    ensures { LeadsOn C.represents processor.old processor.new (λ old new. FollowsRest C.semantics pending.at_end (end_of S.left S.faults source.old source.new) (end_of K.taken K.faults sink.old sink.new) old new.handler (slice_range piece.old pending.from pending.to) result) }
+    ensures { LeadsOn C.represents processor.old processor.new
+        (λ old new. FollowsRest C.semantics pending.at_end (end_of S.left S.faults source.old source.new)
+        (end_of K.taken K.faults sink.old sink.new) old new.handler (slice_range piece.old pending.from pending.to)
+        result) }
 {
     if pending.at_end {
         let mut nothing = CleanSource::new(&[]);

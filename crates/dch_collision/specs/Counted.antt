@@ -25,7 +25,8 @@ removes uplink i c = nat_lt (sent_of uplink.side c (frame_size uplink c) i) (bef
 -- one of the first combinations gives channel i format f and removes bits of it
 unfoldable pub removes_below : Uplink → ℕ → ℕ → ℕ → Bool
 removes_below uplink i f zero = false
-removes_below uplink i f (suc c) = (format_number uplink.side c i == f && removes uplink i c) || removes_below uplink i f c
+removes_below uplink i f (suc c) = (format_number uplink.side c i == f && removes uplink i c) ||
+    removes_below uplink i f c
 
 -- some legal sequence of the uplink removes bits of channel i in format f
 abbrev pub uplink_punctures : Uplink → ℕ → ℕ → Bool
@@ -39,7 +40,8 @@ punctures_below kind (suc m) = copies kind m == 0 || punctures_below kind m
 -- format f of channel i of the downlink stands in some combination, and its pattern removes a bit of it
 abbrev pub downlink_punctures : Downlink → ℕ → ℕ → Bool
 downlink_punctures downlink i f =
-    stands_below downlink.side i f (length downlink.side.combinations) && punctures_below (pattern_of downlink i f).kind (bits_in downlink.side i f)
+    stands_below downlink.side i f (length downlink.side.combinations) &&
+    punctures_below (pattern_of downlink i f).kind (bits_in downlink.side i f)
 
 -- the code blocks of an uplink format that are looked at for collisions, under each legal sequence: those of a format
 -- that may lose bits
@@ -61,4 +63,5 @@ over_formats side number = total (in_channel side number) (length side.channels)
 
 -- how many code blocks may be punctured, each as often as there are legal sequences: the sum over both directions
 abbrev pub search_count : Uplink → Downlink → ℕ
-search_count uplink downlink = over_formats uplink.side (uplink_count uplink) + over_formats downlink.side (downlink_count downlink)
+search_count uplink downlink = over_formats uplink.side (uplink_count uplink) +
+    over_formats downlink.side (downlink_count downlink)

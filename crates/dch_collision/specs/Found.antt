@@ -23,19 +23,22 @@ pub record IsFirstBlock (coding : Coding) (plan : Plan) (sent : ℕ → ℕ) (r 
   pub before : (earlier : ℕ) → earlier < r → IsClearBlock coding plan sent earlier
 
 -- and the sequence is the first legal one of channel i and format f under which two blocks collide
-pub record IsFirstInFormat (side : Side) (sent : Copies) (i f : ℕ) (sequence : List ℕ) (r : ℕ) (block : List Bit) : Type 0 where
+pub record IsFirstInFormat (side : Side) (sent : Copies) (i f : ℕ) (sequence : List ℕ) (r : ℕ)
+    (block : List Bit) : Type 0 where
   pub legal : IsLegal side i f sequence
   pub here : IsFirstBlock (channel_at side i).coding (plan_of (joined_in side i f) (channel_at side i).coding)
       (sent i f sequence) r block
   pub before : (other : List ℕ) → IsLegal side i f other → IsBefore other sequence → IsClearUnder side sent i f other
 
 -- and f is the first such format of channel i
-pub record IsFirstInChannel (side : Side) (sent : Copies) (i f : ℕ) (sequence : List ℕ) (r : ℕ) (block : List Bit) : Type 0 where
+pub record IsFirstInChannel (side : Side) (sent : Copies) (i f : ℕ) (sequence : List ℕ) (r : ℕ)
+    (block : List Bit) : Type 0 where
   pub here : IsFirstInFormat side sent i f sequence r block
   pub before : (earlier : ℕ) → earlier < f → IsClearFormat side sent i earlier
 
 -- and i is the first such channel
-pub record IsFirstOf (side : Side) (sent : Copies) (i f : ℕ) (sequence : List ℕ) (r : ℕ) (block : List Bit) : Type 0 where
+pub record IsFirstOf (side : Side) (sent : Copies) (i f : ℕ) (sequence : List ℕ) (r : ℕ)
+    (block : List Bit) : Type 0 where
   pub there : i < length side.channels
   pub here : IsFirstInChannel side sent i f sequence r block
   pub before : (earlier : ℕ) → earlier < i → IsClearChannel side sent earlier

@@ -30,8 +30,10 @@ pub record IsFirstHidden (rate : Rate) (sent_flags : List Bool) (size k : ℕ) (
 
 -- no output of step k is sent
 abbrev pub is_punctured : Rate → List Bool → ℕ → Bool
-is_punctured HalfRate sent_flags k = not (slice_index_or sent_flags (2 * k) false) && not (slice_index_or sent_flags (2 * k + 1) false)
-is_punctured ThirdRate sent_flags k = not (slice_index_or sent_flags (3 * k) false) && not (slice_index_or sent_flags (3 * k + 1) false) && not (slice_index_or sent_flags (3 * k + 2) false)
+is_punctured HalfRate sent_flags k = not (slice_index_or sent_flags (2 * k) false) &&
+    not (slice_index_or sent_flags (2 * k + 1) false)
+is_punctured ThirdRate sent_flags k = not (slice_index_or sent_flags (3 * k) false) &&
+    not (slice_index_or sent_flags (3 * k + 1) false) && not (slice_index_or sent_flags (3 * k + 2) false)
 
 -- the vote for a coded bit: so many times Zero where it is sent, so many times One where it is not
 abbrev pub vote_for : ℕ → ℕ → Bool → Vote

@@ -42,12 +42,14 @@ IsFirstUnder side sent i f sequence r block = IsFirstBlock (channel_at side i).c
     (channel_at side i).coding) (sent i f sequence) r block
 
 -- and under the first legal sequence that has one
-pub record IsCollisionInFormat (side : Side) (sent : Copies) (i f : ℕ) (sequence : List ℕ) (room : List Bit) (hit : FormatCollision) : Type 0 where
+pub record IsCollisionInFormat (side : Side) (sent : Copies) (i f : ℕ) (sequence : List ℕ) (room : List Bit)
+    (hit : FormatCollision) : Type 0 where
   pub format : hit.format ≡ f
   pub size : hit.size ≤ length room
   pub here : IsFirstInFormat side sent i f sequence hit.block (block_of hit room)
 
 -- and in the first format that has one
-pub record IsCollisionInChannel (side : Side) (sent : Copies) (i : ℕ) (sequence : List ℕ) (room : List Bit) (hit : FormatCollision) : Type 0 where
+pub record IsCollisionInChannel (side : Side) (sent : Copies) (i : ℕ) (sequence : List ℕ) (room : List Bit)
+    (hit : FormatCollision) : Type 0 where
   pub size : hit.size ≤ length room
   pub here : IsFirstInChannel side sent i hit.format sequence hit.block (block_of hit room)

@@ -23,9 +23,11 @@ pub(crate) fn first_collision(
     requires short { shape.now.coding ≢ Uncoded → shape.now.plan.size ≤ 504 }
     requires fits { shape.now.coding ≢ Uncoded → shape.now.plan.size ≤ collider.old }
     requires size { shape.now.plan.size ≤ 131072 }
-    requires sent_flags { shape.now.plan.blocks * coded_block shape.now.coding shape.now.plan.size ≤ length sent_flags.now }
+    requires sent_flags { shape.now.plan.blocks * coded_block shape.now.coding shape.now.plan.size ≤
+        length sent_flags.now }
     requires room { shape.now.plan.size ≤ length block.old }
-    ensures some { IfSome result (λ r. IsFirstBlock shape.now.coding shape.now.plan (copies_kept sent_flags.now) r (take shape.now.plan.size block.new)) }
+    ensures some { IfSome result (λ r. IsFirstBlock shape.now.coding shape.now.plan (copies_kept sent_flags.now) r
+        (take shape.now.plan.size block.new)) }
     ensures none { result ≡ None → AreClearBlocks shape.now.coding shape.now.plan (copies_kept sent_flags.now) }
     ensures kept { collider.new ≡ collider.old }
 {

@@ -39,7 +39,8 @@ pub(crate) fn first_in_format(
     requires fits { Holds room.old (format_room (channel_at config.now.side i)
         (format_at (channel_at config.now.side i) f)) }
     requires block { length block.old ≡ room.old.bits }
-    ensures some { IfSome result (λ hit. IsCollisionInFormat config.now.side (downlink_copies config.now) i f sequence.new block.new hit) }
+    ensures some { IfSome result (λ hit. IsCollisionInFormat config.now.side (downlink_copies config.now)
+        i f sequence.new block.new hit) }
     ensures none { result ≡ None → IsClearFormat config.now.side (downlink_copies config.now) i f }
     ensures kept { room.new ≡ room.old }
 {

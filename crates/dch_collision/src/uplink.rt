@@ -37,7 +37,8 @@ pub(crate) fn first_in_format(
     requires fits { Holds room.old (format_room (channel_at config.now.side i)
         (format_at (channel_at config.now.side i) f)) }
     requires block { length block.old ≡ room.old.bits }
-    ensures some { IfSome result (λ hit. IsCollisionInFormat config.now.side (uplink_copies config.now) i f sequence.new block.new hit) }
+    ensures some { IfSome result (λ hit. IsCollisionInFormat config.now.side (uplink_copies config.now)
+        i f sequence.new block.new hit) }
     ensures none { result ≡ None → IsClearFormat config.now.side (uplink_copies config.now) i f }
     ensures kept { room.new ≡ room.old }
 {
@@ -77,7 +78,8 @@ fn first_under_sequence(
     requires legal { IsLegal config.now.side i f sequence.now }
     requires fits { Fits room.old shape.now }
     requires block { shape.now.padded ≤ length block.old }
-    ensures some { IfSome result (λ r. IsFirstUnder config.now.side (uplink_copies config.now) i f sequence.now r (take shape.now.plan.size block.new)) }
+    ensures some { IfSome result (λ r. IsFirstUnder config.now.side (uplink_copies config.now) i f sequence.now r
+        (take shape.now.plan.size block.new)) }
     ensures none { result ≡ None → IsClearUnder config.now.side (uplink_copies config.now) i f sequence.now }
     ensures kept { room.new ≡ room.old }
 {

@@ -68,7 +68,8 @@ idled_format frames (Some channel) format = if nat_le channel.frames frames then
 -- the list lacks combination c with the channels of at most so many frames set to idle
 abbrev pub lacks_idled : Side → ℕ → ℕ → Bool
 lacks_idled side c frames =
-    not (list_any (λ other. same_formats other.formats (idled frames side.channels (combination_at side c).formats)) side.combinations)
+    not (list_any (λ other. same_formats other.formats (idled frames side.channels (combination_at side c).formats))
+    side.combinations)
 
 abbrev pub is_not_closed : Side → ℕ → Bool
 is_not_closed side c = ((lacks_idled side c 1 || lacks_idled side c 2) || lacks_idled side c 4) || lacks_idled side c 8

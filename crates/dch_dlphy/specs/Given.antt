@@ -10,4 +10,5 @@ use Rattle.dch_dlphy.specs.Frames.{multiplexed}
 pub gives_its_format : GivesItsFormat Down WasDamaged
 gives_its_format planned reader i f blocks is inside n below =
     ap (format_in planned.config.downlink.side i) (is.combinations n below)
-    ∙ sent_formats planned Down (multiplexed planned) is.sent i f is.was.sequence is.was.sent.loaded is.was.sent.frames is.was.sent.from.format inside n below
+    ∙ sent_formats planned Down (multiplexed planned) is.sent i f is.was.sequence is.was.sent.loaded is.was.sent.frames
+    is.was.sent.from.format inside n below

@@ -29,7 +29,8 @@ pub fn demultiplex_tti(
     requires channel { channel < length accepted.now.config.downlink.side.channels }
     requires format { IsFormatOf accepted.now.config.downlink.side rx_frames.now channel format }
     requires whole { length out.old ≡
-        (matching_of accepted.now channel format).cells * (channel_at accepted.now.config.downlink.side channel).frames }
+        (matching_of accepted.now channel format).cells *
+        (channel_at accepted.now.config.downlink.side channel).frames }
     ensures { (p : ℕ) → p < length out.new → slice_index_or out.new p Off ≡
         tti_cell accepted.now rx_frames.now channel (length out.new) p }
 {
@@ -52,7 +53,8 @@ fn demultiplex_frame(
     requires frame { n < (channel_at accepted.now.config.downlink.side channel).frames }
     requires there { kept.now.combination ≢ None }
     requires whole { (c : ℕ) → kept.now.combination ≡ Some c →
-        length out.old ≡ bits_per_frame accepted.now c channel * (channel_at accepted.now.config.downlink.side channel).frames }
+        length out.old ≡ bits_per_frame accepted.now c channel *
+        (channel_at accepted.now.config.downlink.side channel).frames }
     ensures carried { (p : ℕ) → p < length out.new →
         frame_of (channel_at accepted.now.config.downlink.side channel).frames (length out.new) p ≡ n →
         slice_index_or out.new p Off ≡ received_cell accepted.now channel kept.now.combination kept.now.cells

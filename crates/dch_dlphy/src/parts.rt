@@ -25,7 +25,9 @@ pub fn bits_per_frame(accepted: &Accepted, channel: u8, format: u8) -> u32
     requires channel { channel < length accepted.now.config.downlink.side.channels }
     requires format { format < length (channel_at accepted.now.config.downlink.side channel).formats }
     ensures value { result ≡ (matching_of accepted.now channel format).cells }
-    ensures fits { copies_below (matching_of accepted.now channel format).pattern.kind (matching_of accepted.now channel format).pattern.len ≤ (channel_at accepted.now.config.downlink.side channel).frames * result }
+    ensures fits { copies_below (matching_of accepted.now channel format).pattern.kind
+        (matching_of accepted.now channel format).pattern.len ≤
+        (channel_at accepted.now.config.downlink.side channel).frames * result }
     ensures room { (channel_at accepted.now.config.downlink.side channel).frames * result ≤ 457920 }
 {
     // A good configuration has room for each format.

@@ -60,7 +60,8 @@ stands_below side i f (suc c) = format_number side c i == f || stands_below side
 -- the places of a format in a radio frame before any is lowered: RF*N/F rounded up, where RF is Ndata*RM over the
 -- greatest sum, and 1 for a format that stands in no combination
 abbrev pub first_places : Side → ℕ → ℕ → ℕ → ℕ
-first_places side ndata i f = if stands_below side i f (length side.combinations) then div_ceil (ndata * flexible_weight side i f) (greatest side) else div_ceil (eighths (channel_at side i) f) 8
+first_places side ndata i f = if stands_below side i f (length side.combinations)
+    then div_ceil (ndata * flexible_weight side i f) (greatest side) else div_ceil (eighths (channel_at side i) f) 8
 
 -- whether the places of combination c exceed a radio frame
 abbrev pub exceeds : (ℕ → ℕ → ℕ) → Side → ℕ → ℕ → Bool
@@ -70,7 +71,9 @@ exceeds places side ndata c = nat_lt ndata (total (λ i. places i (format_number
 -- lowered to its share of it
 unfoldable pub places_after : Side → ℕ → ℕ → ℕ → ℕ → ℕ
 places_after side ndata zero i f = first_places side ndata i f
-places_after side ndata (suc c) i f = if (exceeds (places_after side ndata c) side ndata c && format_number side c i == f) then min (places_after side ndata c i f) (shared (combined side c) (length side.channels) ndata i) else places_after side ndata c i f
+places_after side ndata (suc c) i f = if (exceeds (places_after side ndata c) side ndata c &&
+    format_number side c i == f) then min (places_after side ndata c i f)
+    (shared (combined side c) (length side.channels) ndata i) else places_after side ndata c i f
 
 -- the places of format f of channel i in a radio frame
 abbrev pub places_of : Downlink → ℕ → ℕ → ℕ
@@ -106,7 +109,8 @@ pub record IsMatching (downlink : Downlink) (i f : ℕ) (matching : RateMatching
   pub pattern : matching.pattern ≡ pattern_of downlink i f
   pub cells : matching.cells ≡ places_of downlink i f
   pub formed : IsWellFormed matching.pattern
-  pub fits : copies_below matching.pattern.kind matching.pattern.len ≤ (channel_at downlink.side i).frames * matching.cells
+  pub fits : copies_below matching.pattern.kind matching.pattern.len ≤
+      (channel_at downlink.side i).frames * matching.cells
 
 -- the matchings of the first formats of channel i
 pub record IsRow (downlink : Downlink) (i formats : ℕ) (row : List RateMatching) : Type 0 where

@@ -29,7 +29,8 @@ remainder n sent = unsigned_abs (int_rem_euclid (pos sent -ℤ pos n) (pos n))
 
 -- the counter's start in the frame that carries a column
 abbrev pub frame_start : ℕ → ℕ → ℕ → ℕ → ℕ
-frame_start n sent frames i = (2 * column_shift (average_distance n (remainder n sent)) frames i * change n sent + 1) % (2 * n)
+frame_start n sent frames i = (2 * column_shift (average_distance n (remainder n sent)) frames i * change n sent + 1) %
+    (2 * n)
 
 -- the pattern of frame `at` of a TTI, which carries a column of the first interleaver
 unfoldable pub frame_pattern : ℕ → ℕ → ℕ → ℕ → Pattern

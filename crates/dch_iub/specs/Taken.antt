@@ -67,7 +67,8 @@ AreCounted side set numbers held = ForSet side set (λ i. length (held_at held.b
     ≡ (format_in side numbers i).number)
 
 -- a good frame was taken
-pub record IsReceived (dir : Dir) (side : Side) (on : Bool) (set : ℕ) (frame : List ℕ) (cfn qe : ℕ) (held : HeldSet) : Type 0 where
+pub record IsReceived (dir : Dir) (side : Side) (on : Bool) (set : ℕ) (frame : List ℕ) (cfn qe : ℕ)
+    (held : HeldSet) : Type 0 where
   pub numbers : List ℕ
   pub is_good : IsGoodFrame dir side on set frame numbers
   pub named : slice_index frame 1 ≡ cfn

@@ -48,8 +48,10 @@ fn write_channel(
     requires side { IsSide side.now }
     requires channel { channel < length side.now.channels }
     requires format { (channel_at side.now channel).set ≡ set → HasFormat (channel_at side.now channel) blocks.now }
-    requires room { at + (if (channel_at side.now channel).set == set then format_octets (format_at (channel_at side.now channel) blocks.now.format) else 0) ≤ length out.old }
-    ensures next { result ≡ at + (if (channel_at side.now channel).set == set then format_octets (format_at (channel_at side.now channel) blocks.now.format) else 0) }
+    requires room { at + (if (channel_at side.now channel).set == set
+        then format_octets (format_at (channel_at side.now channel) blocks.now.format) else 0) ≤ length out.old }
+    ensures next { result ≡ at + (if (channel_at side.now channel).set == set
+        then format_octets (format_at (channel_at side.now channel) blocks.now.format) else 0) }
     ensures packed { (channel_at side.now channel).set ≡ set →
         ArePacked out.new at (length blocks.now.good) blocks.now }
     ensures before { take at out.new ≡ take at out.old }
@@ -118,8 +120,10 @@ fn list_channel(
     requires side { IsSide side.now }
     requires channel { channel < length side.now.channels }
     requires format { (channel_at side.now channel).set ≡ set → HasFormat (channel_at side.now channel) blocks.now }
-    requires room { at + (if (channel_at side.now channel).set == set then (format_at (channel_at side.now channel) blocks.now.format).number else 0) ≤ length out.old }
-    ensures next { result ≡ at + (if (channel_at side.now channel).set == set then (format_at (channel_at side.now channel) blocks.now.format).number else 0) }
+    requires room { at + (if (channel_at side.now channel).set == set
+        then (format_at (channel_at side.now channel) blocks.now.format).number else 0) ≤ length out.old }
+    ensures next { result ≡ at + (if (channel_at side.now channel).set == set
+        then (format_at (channel_at side.now channel) blocks.now.format).number else 0) }
     ensures listed { (channel_at side.now channel).set ≡ set →
         AreListed out.new at (length blocks.now.good) blocks.now }
     ensures before { take at out.new ≡ take at out.old }

@@ -84,7 +84,8 @@ pub fn read_dl(
 ) -> Result<u8, IubError>
     requires { IsSetOf accepted.now.config Down set out.old }
     ensures ok { IfOk result (λ cfn. IsReadForm accepted.now.config Down set frame.now cfn 0 out.new) }
-    ensures good { OnOk result (ForSet (side_of accepted.now.config Down) set (λ i. AreGood (held_at out.new.blocks i))) }
+    ensures good { OnOk result (ForSet (side_of accepted.now.config Down) set
+        (λ i. AreGood (held_at out.new.blocks i))) }
     ensures opened { OnOk result (IsSetOf accepted.now.config Down set out.new) }
     ensures refused { IfErr result (IsCause accepted.now.config Down set frame.now) }
     ensures no_form { OnErr result ((cfn qe : ℕ) (held : HeldSet) →

@@ -42,9 +42,11 @@ fn part_of(side: &Side, set: u8, channel: usize, number: u8) -> Shape
     requires number { (channel_at side.now channel).set ≡ set → number < length (channel_at side.now channel).formats }
     ensures header { result.header ≡ (if (channel_at side.now channel).set == set then 1 else 0) }
     ensures octets { result.octets ≡
-        (if (channel_at side.now channel).set == set then format_octets (format_at (channel_at side.now channel) number) else 0) }
+        (if (channel_at side.now channel).set == set then format_octets (format_at (channel_at side.now channel) number)
+        else 0) }
     ensures marks { result.marks ≡
-        (if (channel_at side.now channel).set == set then (format_at (channel_at side.now channel) number).number else 0) }
+        (if (channel_at side.now channel).set == set then (format_at (channel_at side.now channel) number).number
+        else 0) }
     ensures one { result.header ≤ 1 }
     ensures small { result.octets ≤ 40000 }
     ensures few { result.marks ≤ 64 }

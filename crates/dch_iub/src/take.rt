@@ -51,9 +51,11 @@ fn take_channel(
     requires channel { channel < length side.now.channels }
     requires all { length out.old.blocks ≡ length side.now.channels }
     requires number { (channel_at side.now channel).set ≡ set → number < length (channel_at side.now channel).formats }
-    requires room { at + (if (channel_at side.now channel).set == set then format_octets (format_at (channel_at side.now channel) number) else 0) ≤ length frame.now }
+    requires room { at + (if (channel_at side.now channel).set == set
+        then format_octets (format_at (channel_at side.now channel) number) else 0) ≤ length frame.now }
     requires fits { AreRooms side.now set (length side.now.channels) out.old.blocks }
-    ensures next { result ≡ at + (if (channel_at side.now channel).set == set then format_octets (format_at (channel_at side.now channel) number) else 0) }
+    ensures next { result ≡ at + (if (channel_at side.now channel).set == set
+        then format_octets (format_at (channel_at side.now channel) number) else 0) }
     ensures taken { (channel_at side.now channel).set ≡ set →
         IsTaken (channel_at side.now channel) number frame.now at (held_at out.new.blocks channel) }
     ensures good { (channel_at side.now channel).set ≡ set → AreGood (held_at out.new.blocks channel) }
@@ -131,9 +133,12 @@ fn mark_channel(
     requires number { (channel_at side.now channel).set ≡ set → number < length (channel_at side.now channel).formats }
     requires count { (channel_at side.now channel).set ≡ set →
         length (held_at out.old.blocks channel).good ≡ (format_at (channel_at side.now channel) number).number }
-    requires room { bit + (if (channel_at side.now channel).set == set then (format_at (channel_at side.now channel) number).number else 0) ≤ 8 * length frame.now }
-    requires small { bit + (if (channel_at side.now channel).set == set then (format_at (channel_at side.now channel) number).number else 0) < 2 ^ 32 }
-    ensures next { result ≡ bit + (if (channel_at side.now channel).set == set then (format_at (channel_at side.now channel) number).number else 0) }
+    requires room { bit + (if (channel_at side.now channel).set == set
+        then (format_at (channel_at side.now channel) number).number else 0) ≤ 8 * length frame.now }
+    requires small { bit + (if (channel_at side.now channel).set == set
+        then (format_at (channel_at side.now channel) number).number else 0) < 2 ^ 32 }
+    ensures next { result ≡ bit + (if (channel_at side.now channel).set == set
+        then (format_at (channel_at side.now channel) number).number else 0) }
     ensures marked { (channel_at side.now channel).set ≡ set →
         AreMarked frame.now bit (held_at out.new.blocks channel) }
     ensures same { IsMarkedAs (held_at out.old.blocks channel) (held_at out.new.blocks channel) }

@@ -58,7 +58,8 @@ pub record HasTurn (v : AmRunning) : Type 0 where
   pub some : true ≡ writes (turn rules sender receiver)
 
 -- a block was built at its turn
-pub record BuildsAtTurn (rules : Rules) (s : Sender) (r : Receiver) (old new : AmRunning) (block : List Bit) : Type 0 where
+pub record BuildsAtTurn (rules : Rules) (s : Sender) (r : Receiver) (old new : AmRunning)
+    (block : List Bit) : Type 0 where
   pub octets : List ℕ
   pub some : true ≡ writes (turn rules s r)
   pub written : IsWritten (turn rules s r) rules old.shape.octets octets s r

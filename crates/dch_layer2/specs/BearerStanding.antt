@@ -66,7 +66,8 @@ HoldsReceiving None r (Some t) = ⊥
 HoldsReceiving (Some i) r None = ⊥
 HoldsReceiving (Some i) r (Some t) = t ≡ r
 
-pub record StandsUm (config : Config) (out into : Dir) (b : ℕ) (s : Sends) (r : Receiving) (v : UmRunning) : Type 0 where
+pub record StandsUm (config : Config) (out into : Dir) (b : ℕ) (s : Sends) (r : Receiving)
+    (v : UmRunning) : Type 0 where
   pub mode : (bearer_in config b).mode ≡ UmMode
   pub number : v.number ≡ b
   pub comes_in : v.into ≡ into
@@ -74,7 +75,8 @@ pub record StandsUm (config : Config) (out into : Dir) (b : ℕ) (s : Sends) (r 
   pub sending : HoldsSending (channel_of config out b) s.sending v.sender
   pub receiving : HoldsReceiving (channel_of config into b) r v.receiver
 
-pub record StandsAm (config : Config) (out into : Dir) (b : ℕ) (s : Sender) (r : Receiver) (v : AmRunning) : Type 0 where
+pub record StandsAm (config : Config) (out into : Dir) (b : ℕ) (s : Sender) (r : Receiver)
+    (v : AmRunning) : Type 0 where
   pub mode : (bearer_in config b).mode ≡ AmMode
   pub number : v.number ≡ b
   pub comes_in : v.into ≡ into
@@ -116,7 +118,8 @@ pub record CanBuild (bearer : Bearer) (bits : ℕ) : Type 0 where
   pub size : (head_of config out b bearing).size ≡ bits
 
 -- the block that it builds, and what it then stands for
-pub record Built (config : Config) (out into : Dir) (b : ℕ) (old : Bearing) (block : List Bit) (bearer : Bearer) : Type 0 where
+pub record Built (config : Config) (out into : Dir) (b : ℕ) (old : Bearing) (block : List Bit)
+    (bearer : Bearer) : Type 0 where
   pub next : Bearing
   pub builds : Builds config out b old next block
   pub stands : Represents config out into b next bearer

@@ -19,7 +19,8 @@ pub record HasLayer (config : Config) (v : LayerRunning) : Type 0 where
   pub bounded : AreBounded config layer
 
 -- layer 2 took the readings of the first channels
-pub record HasRead {S : Type 0} (shows : S → Line → S → Type 0) (config : Config) (into : Dir) (readings : ℕ → Reading) (count : ℕ) (old new : LayerRunning) (before after : S) : Type 0 where
+pub record HasRead {S : Type 0} (shows : S → Line → S → Type 0) (config : Config) (into : Dir) (readings : ℕ → Reading)
+    (count : ℕ) (old new : LayerRunning) (before after : S) : Type 0 where
   pub ends : IsSameEnd old new
   pub stands : (layer : Layer) → Represents config layer old
       → Represents config (reads_below config into readings count layer).layer new

@@ -14,7 +14,8 @@ use Rattle.dch_layer2.specs.Octets.{AreOctets, block_of, field_for}
 use Rattle.dch_layer2.specs.Bearings.{Bearing, Transparent, Unacknowledged, Acknowledged, Sends, ct_of, pdu_octets, rules_in}
 
 -- the first unit that waits
-pub record IsFirstUnit (config : Config) (dir : Dir) (b : ℕ) (w : Waiting) (us : List (List Bit)) (next : Bearing) (block : List Bit) : Type 0 where
+pub record IsFirstUnit (config : Config) (dir : Dir) (b : ℕ) (w : Waiting) (us : List (List Bit)) (next : Bearing)
+    (block : List Bit) : Type 0 where
   pub unit : List Bit
   pub later : List (List Bit)
   pub units : w.units ≡ unit ∷ later
@@ -22,7 +23,8 @@ pub record IsFirstUnit (config : Config) (dir : Dir) (b : ℕ) (w : Waiting) (us
   pub next_is : next ≡ Transparent (record w { units = later }) us
 
 -- the next PDU of the unacknowledged mode
-pub record IsNextPdu (config : Config) (dir : Dir) (b : ℕ) (s : Sends) (r : Receiving) (next : Bearing) (block : List Bit) : Type 0 where
+pub record IsNextPdu (config : Config) (dir : Dir) (b : ℕ) (s : Sends) (r : Receiving) (next : Bearing)
+    (block : List Bit) : Type 0 where
   pub some : is_unsent s.sending.units ≡ true
   pub small : AreOctets (pdu_of s.sending)
   pub block_is : block ≡ block_of (ct_of config dir b) (pdu_of s.sending)
@@ -34,7 +36,8 @@ pub record IsNextPdu (config : Config) (dir : Dir) (b : ℕ) (s : Sends) (r : Re
   }) r
 
 -- what the acknowledged mode writes at its turn
-pub record IsAtTurn (config : Config) (dir : Dir) (b : ℕ) (s : Sender) (r : Receiver) (next : Bearing) (block : List Bit) : Type 0 where
+pub record IsAtTurn (config : Config) (dir : Dir) (b : ℕ) (s : Sender) (r : Receiver) (next : Bearing)
+    (block : List Bit) : Type 0 where
   pub octets : List ℕ
   pub some : true ≡ writes (turn (rules_in config b) s r)
   pub written : IsWritten (turn (rules_in config b) s r) (rules_in config b) (pdu_octets config dir b) octets s r
@@ -51,7 +54,8 @@ Builds config dir b (Unacknowledged s r) next block = IsNextPdu config dir b s r
 Builds config dir b (Acknowledged s r) next block = IsAtTurn config dir b s r next block
 
 -- a block, and more behind it
-pub record BuildsFirst (config : Config) (dir : Dir) (b : ℕ) (Rest : Bearing → List (List Bit) → Type 0) (old : Bearing) (blocks : List (List Bit)) : Type 0 where
+pub record BuildsFirst (config : Config) (dir : Dir) (b : ℕ) (Rest : Bearing → List (List Bit) → Type 0) (old : Bearing)
+    (blocks : List (List Bit)) : Type 0 where
   pub next : Bearing
   pub block : List Bit
   pub rest : List (List Bit)
@@ -62,7 +66,8 @@ pub record BuildsFirst (config : Config) (dir : Dir) (b : ℕ) (Rest : Bearing �
 -- a bearer builds so many blocks one after another
 abbrev pub Gives : Config → Dir → ℕ → ℕ → Bearing → Bearing → List (List Bit) → Type 0
 Gives config dir b zero old new blocks = (new ≡ old) × (blocks ≡ [])
-Gives config dir b (suc n) old new blocks = BuildsFirst config dir b (λ next rest. Gives config dir b n next new rest) old blocks
+Gives config dir b (suc n) old new blocks = BuildsFirst config dir b (λ next rest. Gives config dir b n next new rest)
+    old blocks
 
 -- so many blocks can be built one after another with no other event between
 abbrev pub CanBuild : Rules → ℕ → ℕ → Sender → Receiver → Type 0

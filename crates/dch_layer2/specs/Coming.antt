@@ -30,7 +30,8 @@ abbrev pub came_of : Held → List Came
 came_of held = came_below held (length held.good)
 
 -- the first blocks were taken
-pub record AreTaken {S : Type 0} (shows : S → Line → S → Type 0) (config : Config) (channel k : ℕ) (held : Held) (old now : LayerRunning) (before after : S) : Type 0 where
+pub record AreTaken {S : Type 0} (shows : S → Line → S → Type 0) (config : Config) (channel k : ℕ) (held : Held)
+    (old now : LayerRunning) (before after : S) : Type 0 where
   pub ends : IsSameEnd old now
   pub stands : (layer : Layer) → Represents config layer old
       → Represents config (takes config old.into channel 0 (came_below held k) layer).layer now

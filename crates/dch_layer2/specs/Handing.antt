@@ -17,5 +17,6 @@ IsWithin (Whole size) room = size ≤ room
 IsWithin Overlong room = Unit {0}
 
 -- of these units some were told, and these wait: whoever is told of these next was told of all
-pub record Going {S : Type 0} (shows : S → Line → S → Type 0) (dir : Dir) (b : ℕ) (all : List (List ℕ)) (before : S) (left : List (List ℕ)) (now : S) : Type 0 where
+pub record Going {S : Type 0} (shows : S → Line → S → Type 0) (dir : Dir) (b : ℕ) (all : List (List ℕ)) (before : S)
+    (left : List (List ℕ)) (now : S) : Type 0 where
   pub on : (last : S) → Told shows now (unit_lines dir b left) last → Told shows before (unit_lines dir b all) last

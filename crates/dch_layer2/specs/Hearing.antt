@@ -57,7 +57,9 @@ rides_outside rules (Some fields) s = is_unknown (status_answer rules s fields)
 abbrev pub lines_by : Rules → Dir → ℕ → Result AmView PduError → Sender → Receiver → List (List ℕ) → List Line
 lines_by rules dir b (Ok (Payload sn poll c piggyback)) s r units = line_if (is_outside_answer (taken rules r sn))
     (Outside dir b) ++ unit_lines dir b units ++ line_if (rides_outside rules piggyback s) (Outside dir b)
-lines_by rules dir b (Ok (Status fields)) s r units = line_if (is_unknown (status_answer rules s fields) || is_beyond (control_answer rules r fields)) (Outside dir b) ++ unit_lines dir b units
+lines_by rules dir b (Ok (Status fields)) s r units =
+    line_if (is_unknown (status_answer rules s fields) || is_beyond (control_answer rules r fields)) (Outside dir b) ++
+    unit_lines dir b units
 lines_by rules dir b (Ok (Reset rsn hfni)) s r units = []
 lines_by rules dir b (Ok (ResetAck rsn hfni)) s r units = []
 lines_by rules dir b (Err e) s r units = PduBad dir b (error_number e) ∷ []

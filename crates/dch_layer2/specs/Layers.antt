@@ -52,7 +52,8 @@ pub record Outcome : Type 0 where
 -- layer 2 of an end after an SDU is offered to a bearer, and the line that answers it
 abbrev pub offers : Config → Dir → ℕ → List ℕ → List Bit → Layer → Outcome
 offers config out b octets bits layer = record {
-  layer = with_bearing layer b (after_answer (answers config out b octets bits (layer.bearings b)) octets bits (layer.bearings b));
+  layer = with_bearing layer b (after_answer (answers config out b octets bits (layer.bearings b)) octets bits
+      (layer.bearings b));
   lines = line_of_answer out b (answers config out b octets bits (layer.bearings b)) ∷ [];
 }
 
@@ -93,7 +94,9 @@ takes_one config into channel k bits false layer = record { layer = layer; lines
 abbrev pub takes : Config → Dir → ℕ → ℕ → List Came → Layer → Outcome
 takes config into channel k [] layer = record { layer = layer; lines = [] }
 takes config into channel k (came ∷ later) layer = record {
-  layer = (takes config into channel (k + 1) later (takes_one config into channel k came.bits came.good layer).layer).layer;
+  layer = (takes config into channel (k + 1) later (takes_one config into channel k came.bits came.good
+      layer).layer).layer;
   lines = (takes_one config into channel k came.bits came.good layer).lines
-      ++ (takes config into channel (k + 1) later (takes_one config into channel k came.bits came.good layer).layer).lines;
+      ++ (takes config into channel (k + 1) later (takes_one config into channel k came.bits came.good
+      layer).layer).lines;
 }

@@ -73,7 +73,8 @@ pub record IsSameShape (old new : Held) : Type 0 where
   pub room : new.room ≡ old.room
 
 -- a bearer built so many blocks, which stand behind the first ones
-pub record Fills (config : Config) (out into : Dir) (b n from : ℕ) (old : Bearing) (bearer : Bearer) (before after : Held) : Type 0 where
+pub record Fills (config : Config) (out into : Dir) (b n from : ℕ) (old : Bearing) (bearer : Bearer)
+    (before after : Held) : Type 0 where
   pub next : Bearing
   pub blocks : List (List Bit)
   pub gives : Gives config out b n old next blocks
@@ -116,7 +117,8 @@ pub record CanShare (m : Moment) (i : ℕ) (bearers : List Bearer) : Type 0 wher
   pub ready : AreReady m i into bearings bearers
 
 -- each bearer built so many blocks, and the first blocks of the channel are those of these bearers in order
-pub record IsShared (m : Moment) (into : Dir) (counts : ℕ → ℕ) (order : List ℕ) (n : ℕ) (bearings : ℕ → Bearing) (bearers : List Bearer) (held : Held) : Type 0 where
+pub record IsShared (m : Moment) (into : Dir) (counts : ℕ → ℕ) (order : List ℕ) (n : ℕ) (bearings : ℕ → Bearing)
+    (bearers : List Bearer) (held : Held) : Type 0 where
   pub next : ℕ → Bearing
   pub built : ℕ → List (List Bit)
   pub gives : (a : ℕ) → Gives m.config m.out a (counts a) (bearings a) (next a) (built a)
@@ -124,7 +126,8 @@ pub record IsShared (m : Moment) (into : Dir) (counts : ℕ → ℕ) (order : Li
   pub filled : front held n ≡ joined built order
 
 -- all bearers of a channel built what they give
-pub record AreAllServed (m : Moment) (i : ℕ) (format : Format) (old new : List Bearer) (before after : Held) : Type 0 where
+pub record AreAllServed (m : Moment) (i : ℕ) (format : Format) (old new : List Bearer)
+    (before after : Held) : Type 0 where
   pub all : length new ≡ length old
   pub shape : IsSameShape before after
   pub shared : (into : Dir) (bearings : ℕ → Bearing) → AreStanding m into bearings old

@@ -22,7 +22,8 @@ abbrev pub given_by : Asked → ℕ → (ℕ → List (List Bit)) → ℕ → Gi
 given_by asked c built i = record { format = format_number asked.side c i; blocks = blocks_for asked built i }
 
 -- a channel has started: its bearers built its blocks, and the other ones are as they were
-pub record IsChannelStarted (m : Moment) (into : Dir) (c i : ℕ) (bearings : ℕ → Bearing) (bearers : List Bearer) (held : Held) : Type 0 where
+pub record IsChannelStarted (m : Moment) (into : Dir) (c i : ℕ) (bearings : ℕ → Bearing) (bearers : List Bearer)
+    (held : Held) : Type 0 where
   pub next : ℕ → Bearing
   pub built : ℕ → List (List Bit)
   pub gives : (a : ℕ) → Gives m.config m.out a (built_on (asked_by m) i (format_in (asked_by m) c i) a) (bearings a)
@@ -45,7 +46,8 @@ given_to asked c built i old j = if is_started asked i j then given_by asked c b
 
 -- what was there before: each bearer stands for a bearing, in which no unit is empty, and offers this; each channel was
 -- given something
-pub record IsBefore (m : Moment) (into : Dir) (bearings : ℕ → Bearing) (gave : ℕ → Given) (bearers : List Bearer) (held : List Held) : Type 0 where
+pub record IsBefore (m : Moment) (into : Dir) (bearings : ℕ → Bearing) (gave : ℕ → Given) (bearers : List Bearer)
+    (held : List Held) : Type 0 where
   pub standing : AreStanding m into bearings bearers
   pub bits : (b : ℕ) → b < length m.config.bearers → HasBits (bearings b)
   pub heads : (b : ℕ) → b < length m.config.bearers → head_in m.heads b ≡ head_of m.config m.out b (bearings b)
@@ -54,7 +56,8 @@ pub record IsBefore (m : Moment) (into : Dir) (bearings : ℕ → Bearing) (gave
       → IsGiven m.config m.out i (gave i) (held_at held i)
 
 -- and what is there when the first channels have started
-pub record IsAfter (m : Moment) (into : Dir) (c i : ℕ) (bearings : ℕ → Bearing) (gave : ℕ → Given) (bearers : List Bearer) (held : List Held) : Type 0 where
+pub record IsAfter (m : Moment) (into : Dir) (c i : ℕ) (bearings : ℕ → Bearing) (gave : ℕ → Given)
+    (bearers : List Bearer) (held : List Held) : Type 0 where
   pub next : ℕ → Bearing
   pub built : ℕ → List (List Bit)
   pub gives : (a : ℕ) → Gives m.config m.out a (count_to (asked_by m) c i a (channel_of m.config m.out a)) (bearings a)
@@ -71,7 +74,8 @@ pub record CanStart (m : Moment) (bearers : List Bearer) (held : List Held) : Ty
   pub before : IsBefore m into bearings gave bearers held
 
 -- those of the first channels have started
-pub record HaveStarted (m : Moment) (c i : ℕ) (bearers new_bearers : List Bearer) (held new_held : List Held) : Type 0 where
+pub record HaveStarted (m : Moment) (c i : ℕ) (bearers new_bearers : List Bearer)
+    (held new_held : List Held) : Type 0 where
   pub all_bearers : length new_bearers ≡ length bearers
   pub all : length new_held ≡ length held
   pub after : (into : Dir) (bearings : ℕ → Bearing) (gave : ℕ → Given) → IsBefore m into bearings gave bearers held

@@ -64,6 +64,7 @@ given_now asked c built old i = if starts asked i then record {
 pub record IsStart (config : Config) (out : Dir) (cfn : ℕ) (old new : Layer) : Type 0 where
   pub best : IsBest (asked_in config out cfn old) new.running
   pub built : ℕ → List (List Bit)
-  pub gives : (b : ℕ) → Gives config out b (count_on (asked_in config out cfn old) new.running b (channel_of config out b)) (old.bearings b) (new.bearings b) (built b)
+  pub gives : (b : ℕ) → Gives config out b (count_on (asked_in config out cfn old) new.running b
+      (channel_of config out b)) (old.bearings b) (new.bearings b) (built b)
   pub given : (i : ℕ) → new.given i ≡ given_now (asked_in config out cfn old) new.running built old i
   pub blocked : new.blocked ≡ old.blocked

@@ -89,7 +89,8 @@ impl AmBearer {
     ) -> Result<AmBearer, NoMemory>
         requires there { bearer < length accepted.now.config.bearers }
         requires mode { (bearer_in accepted.now.config bearer).mode ≡ Am }
-        ensures { IfOk result (StandsAm accepted.now.config out into bearer opened_sender (opened_receiver (rules_in accepted.now.config bearer))) }
+        ensures { IfOk result (StandsAm accepted.now.config out into bearer opened_sender
+            (opened_receiver (rules_in accepted.now.config bearer))) }
     {
         let it = bearer_of(accepted, bearer);
         let shape = shape_on(accepted, out, bearer);
@@ -166,7 +167,8 @@ impl AmBearer {
         requires comes { length bits.now / 8 ≤ size_in self.old.entity }
         requires unit { length unit.old ≡ 1500 }
         ensures told { (rules : Rules) (s : Sender) (r : Receiver) → HasSides rules s r self.old →
-            Told U.shows user.old (lines_on rules self.old.into self.old.number (am_reading (octets_of bits.now)) s r) user.new }
+            Told U.shows user.old (lines_on rules self.old.into self.old.number (am_reading (octets_of bits.now)) s r)
+            user.new }
         ensures sides { (rules : Rules) (s : Sender) (r : Receiver) → HasSides rules s r self.old →
             HasSides rules (sender_of rules (am_reading (octets_of bits.now)) s)
             (receiver_of rules (am_reading (octets_of bits.now)) r) self.new }

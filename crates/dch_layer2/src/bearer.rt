@@ -48,7 +48,8 @@ impl Bearer {
         bearer: u8,
     ) -> Result<Bearer, NoMemory>
         requires { bearer < length accepted.now.config.bearers }
-        ensures { IfOk result (Represents accepted.now.config out into bearer (opened_bearing accepted.now.config out bearer)) }
+        ensures { IfOk result (Represents accepted.now.config out into bearer
+            (opened_bearing accepted.now.config out bearer)) }
     {
         match bearer_of(accepted, bearer).mode {
             Mode::Tm => Ok(Bearer::Tm(TmBearer::open(alloc, accepted, out, into, bearer)?)),
@@ -64,7 +65,8 @@ impl Bearer {
             Represents config out into b old self.old → result ≡ answers config out b octets.now bits.now old }
         ensures stands { (config : Config) (out into : Dir) (b : ℕ) (old : Bearing) →
             Represents config out into b old self.old →
-            Represents config out into b (after_answer (answers config out b octets.now bits.now old) octets.now bits.now old) self.new }
+            Represents config out into b (after_answer (answers config out b octets.now bits.now old)
+            octets.now bits.now old) self.new }
     {
         match self {
             Bearer::Tm(bearer) => bearer.offer(bits),

@@ -17,7 +17,8 @@ pub fn open_bearers(
     out: Dir,
     into: Dir,
 ) -> Result<Vec<Bearer>, NoMemory>
-    ensures { IfOk result (λ bearers. AreOpened accepted.now.config out into (length accepted.now.config.bearers) bearers.items) }
+    ensures { IfOk result (λ bearers. AreOpened accepted.now.config out into (length accepted.now.config.bearers)
+        bearers.items) }
 {
     // There are at most 16.
     let config = accepted.config();
@@ -30,7 +31,8 @@ pub fn open_bearers(
 
 /// Takes the memory for the blocks of a TTI of each channel of a direction. Each channel has its idle format.
 pub fn open_given(alloc: Global, accepted: &Accepted, out: Dir) -> Result<Vec<TtiBlocks>, NoMemory>
-    ensures { IfOk result (λ given. AreIdle accepted.now.config out (length (side_of accepted.now.config out).channels) given.items) }
+    ensures { IfOk result (λ given. AreIdle accepted.now.config out (length (side_of accepted.now.config out).channels)
+        given.items) }
 {
     // There are at most 8 channels.
     let side = accepted.side(out);

@@ -26,7 +26,8 @@ impl Moment<'_> {
     )
         requires may { IsCandidate (asked_by self.now) combination }
         requires can { CanStart self.now bearers.old given.old }
-        ensures { HaveStarted self.now combination (length (side_of self.now.config self.now.out).channels) bearers.old bearers.new given.old given.new }
+        ensures { HaveStarted self.now combination (length (side_of self.now.config self.now.out).channels)
+            bearers.old bearers.new given.old given.new }
     {
         // There are at most 8 channels.
         let _side = self.accepted.side(self.out);
@@ -91,7 +92,8 @@ fn fill(head: Head, size: u16, from: usize, bearer: &mut Bearer, blocks: &mut Tt
     ensures value { result ≡ from + share head size (length blocks.old.good - from) }
     ensures filled { (config : Config) (out into : Dir) (b : ℕ) (old : Bearing) →
         StandsFor config out into b old bearer.old →
-        Fills config out into b (share head size (length blocks.old.good - from)) from old bearer.new blocks.old blocks.new }
+        Fills config out into b (share head size (length blocks.old.good - from))
+        from old bearer.new blocks.old blocks.new }
 {
     let count = share(head, size, blocks.count() - from);
     for k in 0..count {

@@ -31,9 +31,11 @@ impl Layer2 {
         requires format { HasFormat (channel_at (side_of accepted.now.config self.old.into) channel) blocks.now }
         requires layer { IsLayerOf accepted.now.config self.old }
         ensures told { (layer : Layer) → Represents accepted.now.config layer self.old →
-            Told U.shows user.old (takes accepted.now.config self.old.into channel 0 (came_of blocks.now) layer).lines user.new }
+            Told U.shows user.old (takes accepted.now.config self.old.into channel 0 (came_of blocks.now)
+            layer).lines user.new }
         ensures stands { (layer : Layer) → Represents accepted.now.config layer self.old →
-            Represents accepted.now.config (takes accepted.now.config self.old.into channel 0 (came_of blocks.now) layer).layer self.new }
+            Represents accepted.now.config (takes accepted.now.config self.old.into channel 0 (came_of blocks.now)
+            layer).layer self.new }
         ensures ends { IsSameEnd self.old self.new }
     {
         for k in 0..blocks.count() {
@@ -58,7 +60,8 @@ impl Layer2 {
             Told U.shows user.old (takes_one accepted.now.config self.old.into channel k (block_at blocks.now k)
             (slice_index_or blocks.now.good k false) layer).lines user.new }
         ensures stands { (layer : Layer) → Represents accepted.now.config layer self.old →
-            Represents accepted.now.config (takes_one accepted.now.config self.old.into channel k (block_at blocks.now k) (slice_index_or blocks.now.good k false) layer).layer self.new }
+            Represents accepted.now.config (takes_one accepted.now.config self.old.into channel k
+            (block_at blocks.now k) (slice_index_or blocks.now.good k false) layer).layer self.new }
         ensures ends { IsSameEnd self.old self.new }
     {
         // A format has at most 64 blocks.
@@ -87,7 +90,8 @@ impl Layer2 {
         ensures told { (layer : Layer) → Represents accepted.now.config layer self.old →
             Told U.shows user.old (takes_good accepted.now.config self.old.into channel bits.now layer).lines user.new }
         ensures stands { (layer : Layer) → Represents accepted.now.config layer self.old →
-            Represents accepted.now.config (takes_good accepted.now.config self.old.into channel bits.now layer).layer self.new }
+            Represents accepted.now.config (takes_good accepted.now.config self.old.into channel bits.now layer).layer
+            self.new }
         ensures ends { IsSameEnd self.old self.new }
     {
         if bits.is_empty() {
@@ -113,7 +117,8 @@ impl Layer2 {
         ensures told { (layer : Layer) → Represents accepted.now.config layer self.old →
             Told U.shows user.old (goes accepted.now.config self.old.into channel bits.now to layer).lines user.new }
         ensures stands { (layer : Layer) → Represents accepted.now.config layer self.old →
-            Represents accepted.now.config (goes accepted.now.config self.old.into channel bits.now to layer).layer self.new }
+            Represents accepted.now.config (goes accepted.now.config self.old.into channel bits.now to layer).layer
+            self.new }
         ensures ends { IsSameEnd self.old self.new }
     {
         match to {

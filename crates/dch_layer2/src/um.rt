@@ -102,7 +102,8 @@ impl UmBearer {
     ) -> Result<UmBearer, NoMemory>
         requires there { bearer < length accepted.now.config.bearers }
         requires mode { (bearer_in accepted.now.config bearer).mode ≡ Um }
-        ensures { IfOk result (StandsUm accepted.now.config out into bearer (opened_sends accepted.now.config out bearer) opened) }
+        ensures { IfOk result (StandsUm accepted.now.config out into bearer
+            (opened_sends accepted.now.config out bearer) opened) }
     {
         let shape = shape_on(accepted, out, bearer);
         let sender = sender_of(alloc, accepted, out, bearer, shape)?;

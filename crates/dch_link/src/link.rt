@@ -378,7 +378,8 @@ impl Link {
         ensures opened { AreNodesOf accepted.now self.new }
         ensures passes { (began : Planned) (first : ℕ) (link : LinkState) →
             Represents began accepted.now first link self.old →
-            LeadsTo began accepted.now first (AtStage (Stage.IubUp set) link) self.new (Tells U.shows user.old user.new) }
+            LeadsTo began accepted.now first (AtStage (Stage.IubUp set) link) self.new
+            (Tells U.shows user.old user.new) }
         ensures next { (second : Planned) → HasNext accepted.now second self.old →
             HasNext accepted.now second self.new }
         ensures few { TellsFew U.shows (step_bytes accepted.now.config + 2400) user.old user.new }

@@ -144,7 +144,8 @@ impl Soft {
         requires event { MayCome accepted.now (length self.old.legs) event }
         ensures opened { IsSoftOf accepted.now self.new }
         ensures happens { (first : ℕ) (soft : SoftState) → Represents accepted.now first soft self.old →
-            LeadsTo accepted.now first (Happens soft (event_of event.entry)) self.new (Tells U.shows user.old user.new) }
+            LeadsTo accepted.now first (Happens soft (event_of event.entry)) self.new
+            (Tells U.shows user.old user.new) }
         ensures legs { length self.new.legs ≡ length self.old.legs }
         ensures few { TellsFew U.shows (step_bytes accepted.now.config) user.old user.new }
     {
@@ -188,7 +189,8 @@ impl Soft {
         requires event { MayCome accepted.now (length self.old.legs) event }
         ensures opened { ArePartsOf accepted.now self.new }
         ensures happens { (first : ℕ) (soft : SoftState) → Represents accepted.now first soft self.old →
-            LeadsTo accepted.now first (Happens soft (event_of event.entry)) self.new (Tells U.shows user.old user.new) }
+            LeadsTo accepted.now first (Happens soft (event_of event.entry)) self.new
+            (Tells U.shows user.old user.new) }
         ensures legs { length self.new.legs ≡ length self.old.legs }
         ensures few { TellsFew U.shows (step_bytes accepted.now.config) user.old user.new }
     {

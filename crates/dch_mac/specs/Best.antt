@@ -11,7 +11,8 @@ use Rattle.dch_mac.specs.Candidates.{IsCandidate}
 
 -- the bits that bearers of a priority send on channel i, if it starts
 abbrev pub carried_on : Asked → ℕ → ℕ → ℕ → ℕ
-carried_on asked c priority i = if starts asked i then given_by asked i (format_in asked c i) priority * (format_in asked c i).size else 0
+carried_on asked c priority i = if starts asked i
+    then given_by asked i (format_in asked c i) priority * (format_in asked c i).size else 0
 
 -- and on the first of all channels
 abbrev pub carried_below : Asked → ℕ → ℕ → ℕ → ℕ

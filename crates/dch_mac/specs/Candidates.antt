@@ -12,7 +12,8 @@ KeepsRunning asked c = (i : ℕ) → i < length asked.side.channels → starts a
 
 -- channel i finds the blocks of its format, or that has no bit
 abbrev pub finds : Asked → ℕ → ℕ → Bool
-finds asked c i = is_idle (format_in asked c i) || nat_le (format_in asked c i).number (waiting asked i (format_in asked c i).size)
+finds asked c i = is_idle (format_in asked c i) || nat_le (format_in asked c i).number
+    (waiting asked i (format_in asked c i).size)
 
 -- each channel that starts finds its blocks
 abbrev pub FindsBlocks : Asked → ℕ → Type 0

@@ -11,6 +11,7 @@ KeepsRadio planned dir None kept = kept.combination ≡ None
 KeepsRadio planned dir (Some radio) kept = IsKept planned dir radio.tfci radio.cells kept
 
 -- the radio frames of the last 8 CFNs are kept, the last one being that of a CFN
-pub record AreHeard (planned : Planned) (dir : Dir) (cfn : ℕ) (frames : ℕ → Option Radio) (rx_frames : RxFrames) : Type 0 where
+pub record AreHeard (planned : Planned) (dir : Dir) (cfn : ℕ) (frames : ℕ → Option Radio)
+    (rx_frames : RxFrames) : Type 0 where
   pub last : rx_frames.cfn ≡ cfn
   pub kept : (k : ℕ) → k < 8 → KeepsRadio planned dir (frames k) (rx_frame_at rx_frames.frames k)

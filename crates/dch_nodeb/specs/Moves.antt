@@ -34,19 +34,22 @@ pub record IsFilled (planned : Planned) (set : ℕ) (octets : List ℕ) (rx_buff
   pub read : IsReadForm planned.config Down set octets cfn 0 rx_buffer.held
 
 -- a frame was read without a word
-pub record IsTaken (planned : Planned) (set : ℕ) (octets : List ℕ) (new : IubRxBuffer) (lines : List Line) : Type 0 where
+pub record IsTaken (planned : Planned) (set : ℕ) (octets : List ℕ) (new : IubRxBuffer)
+    (lines : List Line) : Type 0 where
   pub filled : IsFilled planned set octets new
   pub quiet : lines ≡ []
 
 -- or refused, which is told
-pub record IsRefused (planned : Planned) (set : ℕ) (octets : List ℕ) (old new : IubRxBuffer) (lines : List Line) : Type 0 where
+pub record IsRefused (planned : Planned) (set : ℕ) (octets : List ℕ) (old new : IubRxBuffer)
+    (lines : List Line) : Type 0 where
   pub error : IubError
   pub cause : IsCause planned.config Down set octets error
   pub same : new ≡ old
   pub reported : lines ≡ IubBad Down set (refusal_number error) ∷ []
 
 -- an Iub frame came for a set
-pub record Keeps {S : Type 0} (shows : S → Line → S → Type 0) (planned : Planned) (set : ℕ) (octets : List ℕ) (old new : List IubRxBuffer) (before after : S) : Type 0 where
+pub record Keeps {S : Type 0} (shows : S → Line → S → Type 0) (planned : Planned) (set : ℕ) (octets : List ℕ)
+    (old new : List IubRxBuffer) (before after : S) : Type 0 where
   pub opened : AreRxBuffersOf planned new
   pub others : (s : ℕ) → s ≢ set → rx_buffer_at new s ≡ rx_buffer_at old s
   pub lines : List Line
@@ -89,10 +92,12 @@ pub record Loads (planned : Planned) (channel : ℕ) (held : Held) (old new : Do
   pub sent : new.radio.sent ≡ old.radio.sent
 
 -- the first channels whose TTI starts were loaded with the blocks of the receive buffers, and no other ones
-pub record AreGiven (planned : Planned) (cfn count : ℕ) (rx_buffers : List IubRxBuffer) (old new : DownlinkTransmitter) : Type 0 where
+pub record AreGiven (planned : Planned) (cfn count : ℕ) (rx_buffers : List IubRxBuffer)
+    (old new : DownlinkTransmitter) : Type 0 where
   pub opened : IsTransmitterOf planned new
   pub on : (i : ℕ) → i < count → starts (channel_at planned.config.downlink.side i).frames cfn ≡ true
-      → IsGiven planned i (held_at (rx_buffer_at rx_buffers (channel_at planned.config.downlink.side i).set).held.blocks i) new
+      → IsGiven planned i (held_at (rx_buffer_at rx_buffers
+      (channel_at planned.config.downlink.side i).set).held.blocks i) new
   pub off : (i : ℕ) → i < count → starts (channel_at planned.config.downlink.side i).frames cfn ≡ false
       → IsUntouched i old new
   pub later : (i : ℕ) → count ≤ i → IsUntouched i old new
@@ -126,11 +131,13 @@ pub record IsWritten (planned : Planned) (cfn : ℕ) (transmitter : DownlinkTran
   pub cells : radio.cells ≡ frame.cells
 
 abbrev pub Writes : Planned → ℕ → DownlinkTransmitter → Option Radio → Type 0
-Writes planned cfn transmitter None = RunsInNone planned.config.downlink.side (length planned.config.downlink.side.combinations) transmitter.formats
+Writes planned cfn transmitter None = RunsInNone planned.config.downlink.side
+    (length planned.config.downlink.side.combinations) transmitter.formats
 Writes planned cfn transmitter (Some radio) = IsWritten planned cfn transmitter radio
 
 -- a radio frame was sent, or none
-pub record Sends {S : Type 0} (shows : S → Line → S → Type 0) (planned : Planned) (cfn : ℕ) (old new : DownlinkTransmitter) (before after : S) : Type 0 where
+pub record Sends {S : Type 0} (shows : S → Line → S → Type 0) (planned : Planned) (cfn : ℕ)
+    (old new : DownlinkTransmitter) (before after : S) : Type 0 where
   pub opened : IsTransmitterOf planned new
   pub running : new.running ≡ old.running
   pub formats : new.formats ≡ old.formats
@@ -139,7 +146,8 @@ pub record Sends {S : Type 0} (shows : S → Line → S → Type 0) (planned : P
 
 -- the radio frame of the CFN is due: receive buffers are made ready, the channels that start are loaded, and the frame
 -- is sent
-pub record Transmits {S : Type 0} (shows : S → Line → S → Type 0) (planned : Planned) (cfn : ℕ) (old new : List IubRxBuffer) (transmitter sent : DownlinkTransmitter) (before after : S) : Type 0 where
+pub record Transmits {S : Type 0} (shows : S → Line → S → Type 0) (planned : Planned) (cfn : ℕ)
+    (old new : List IubRxBuffer) (transmitter sent : DownlinkTransmitter) (before after : S) : Type 0 where
   pub ready : AreReady planned cfn 8 old new
   pub loaded : DownlinkTransmitter
   pub given : AreGiven planned cfn (length planned.config.downlink.side.channels) new transmitter loaded
@@ -152,7 +160,8 @@ pub record Hears (planned : Planned) (cfn : ℕ) (radio : Option Radio) (old new
   pub others : (k : ℕ) → k ≢ cfn % 8 → rx_frame_at new.frames k ≡ rx_frame_at old.frames k
 
 -- a set was served
-pub record Delivered {S : Type 0} (shows : S → Line → S → Type 0) (planned : Planned) (rx_frames : RxFrames) (set : ℕ) (tx_buffer : IubTxBuffer) (receiver : UplinkReceiver) (before after : S) : Type 0 where
+pub record Delivered {S : Type 0} (shows : S → Line → S → Type 0) (planned : Planned) (rx_frames : RxFrames) (set : ℕ)
+    (tx_buffer : IubTxBuffer) (receiver : UplinkReceiver) (before after : S) : Type 0 where
   pub lines : List Line
   pub serves : DeliversSet planned rx_frames set lines tx_buffer.sent
   pub told : Told shows before lines after
@@ -161,7 +170,8 @@ pub record Delivered {S : Type 0} (shows : S → Line → S → Type 0) (planned
   pub same : receiver.rx_frames ≡ rx_frames
 
 -- the first sets were served, and the others send nothing
-pub record AreDelivered {S : Type 0} (shows : S → Line → S → Type 0) (planned : Planned) (rx_frames : RxFrames) (count : ℕ) (tx_buffers : List IubTxBuffer) (receiver : UplinkReceiver) (before after : S) : Type 0 where
+pub record AreDelivered {S : Type 0} (shows : S → Line → S → Type 0) (planned : Planned) (rx_frames : RxFrames)
+    (count : ℕ) (tx_buffers : List IubTxBuffer) (receiver : UplinkReceiver) (before after : S) : Type 0 where
   pub lines : ℕ → List Line
   pub sets : (s : ℕ) → s < count → DeliversSet planned rx_frames s (lines s) (tx_buffer_at tx_buffers s).sent
   pub later : (s : ℕ) → count ≤ s → s < 8 → (tx_buffer_at tx_buffers s).sent ≡ None
@@ -171,6 +181,7 @@ pub record AreDelivered {S : Type 0} (shows : S → Line → S → Type 0) (plan
   pub same : receiver.rx_frames ≡ rx_frames
 
 -- an uplink radio frame came, or is missing, and all sets were served
-pub record Receives {S : Type 0} (shows : S → Line → S → Type 0) (planned : Planned) (cfn : ℕ) (radio : Option Radio) (old : RxFrames) (tx_buffers : List IubTxBuffer) (receiver : UplinkReceiver) (before after : S) : Type 0 where
+pub record Receives {S : Type 0} (shows : S → Line → S → Type 0) (planned : Planned) (cfn : ℕ) (radio : Option Radio)
+    (old : RxFrames) (tx_buffers : List IubTxBuffer) (receiver : UplinkReceiver) (before after : S) : Type 0 where
   pub hears : Hears planned cfn radio old receiver.rx_frames
   pub served : AreDelivered shows planned receiver.rx_frames 8 tx_buffers receiver before after

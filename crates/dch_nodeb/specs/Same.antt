@@ -6,7 +6,8 @@ use Rattle.dch_iub.specs.Shape.{ForSet}
 use Rattle.dch_nodeb.specs.State.{Change, DownlinkDue, DownlinkIubFrame, Event, IubFrame, State, UplinkFrame}
 
 -- another frame is kept for the set, with the same CFN and the same blocks of each of its channels
-pub record KeepsAgain (side : Side) (set : ℕ) (frame : DownlinkIubFrame) (other : Option DownlinkIubFrame) : Type 0 where
+pub record KeepsAgain (side : Side) (set : ℕ) (frame : DownlinkIubFrame)
+    (other : Option DownlinkIubFrame) : Type 0 where
   pub again : DownlinkIubFrame
   pub is : other ≡ Some again
   pub cfn : again.cfn ≡ frame.cfn

@@ -17,7 +17,8 @@ pub fn load(
 )
     requires rx_buffers { AreRxBuffersOf accepted.now rx_buffers.now }
     requires transmitter { IsTransmitterOf accepted.now transmitter.old }
-    ensures { AreGiven accepted.now cfn (length accepted.now.config.downlink.side.channels) rx_buffers.now transmitter.old transmitter.new }
+    ensures { AreGiven accepted.now cfn (length accepted.now.config.downlink.side.channels)
+        rx_buffers.now transmitter.old transmitter.new }
 {
     let side = accepted.side(Dir::Down);
     for i in 0..side.channels.len() {
@@ -44,7 +45,8 @@ pub fn transmit<U: Indications>(
     requires rx_buffers { AreRxBuffersOf accepted.now rx_buffers.old }
     requires transmitter { IsTransmitterOf accepted.now transmitter.old }
     requires noted { AreNoted accepted.now transmitter.old.formats transmitter.old.running }
-    ensures { Transmits U.shows accepted.now cfn rx_buffers.old rx_buffers.new transmitter.old transmitter.new user.old user.new }
+    ensures { Transmits U.shows accepted.now cfn rx_buffers.old rx_buffers.new transmitter.old transmitter.new user.old
+        user.new }
 {
     ready(accepted, cfn, rx_buffers);
     load(accepted, cfn, rx_buffers, transmitter);

@@ -113,7 +113,8 @@ impl NodeB {
         ensures history { (began before : Planned) (first : ℕ) (events : List Event) (lines : List Line) →
             IsActiveBefore accepted.now event.entry before self.old →
             RepresentsHistory began before first events lines self.old →
-            ExtendsHistory began accepted.now first events lines (event_of accepted.now event.entry) self.new (Tells U.shows user.old user.new) }
+            ExtendsHistory began accepted.now first events lines (event_of accepted.now event.entry) self.new
+            (Tells U.shows user.old user.new) }
         ensures next { KeepsNext accepted.now event.entry self.old self.new }
         ensures few { TellsFew U.shows 4000000 user.old user.new }
     {
@@ -129,11 +130,13 @@ impl NodeB {
         ensures opened { IsNodeOf accepted.now self.new }
         ensures step { (before : Planned) (state : State) → IsActiveBefore accepted.now event.entry before self.old →
             Represents before state self.old →
-            Stepped accepted.now state (event_of accepted.now event.entry) self.new (AddsLines report.old.text report.new.text) }
+            Stepped accepted.now state (event_of accepted.now event.entry) self.new
+            (AddsLines report.old.text report.new.text) }
         ensures history { (began before : Planned) (first : ℕ) (events : List Event) (lines : List Line) →
             IsActiveBefore accepted.now event.entry before self.old →
             RepresentsHistory began before first events lines self.old →
-            ExtendsHistory began accepted.now first events lines (event_of accepted.now event.entry) self.new (AddsLines report.old.text report.new.text) }
+            ExtendsHistory began accepted.now first events lines (event_of accepted.now event.entry) self.new
+            (AddsLines report.old.text report.new.text) }
         ensures next { KeepsNext accepted.now event.entry self.old self.new }
         ensures few { length report.new.text ≤ length report.old.text + 4000000 }
         ensures most { report.new.most ≡ report.old.most }

@@ -44,7 +44,8 @@ impl UplinkReceiver {
     /// Takes all memory that receiving wants. No frame is there.
     pub fn open(alloc: Global, accepted: &Accepted) -> Result<UplinkReceiver, NoMemory>
         ensures opened { IfOk result (IsReceiverOf accepted.now) }
-        ensures missing { IfOk result (λ receiver. AreMissing (most_cells accepted.now.config Up) 8 receiver.rx_frames.frames) }
+        ensures missing { IfOk result (λ receiver. AreMissing (most_cells accepted.now.config Up)
+            8 receiver.rx_frames.frames) }
     {
         Ok(UplinkReceiver {
             reader: UlReader::open(alloc, accepted)?,
@@ -72,7 +73,8 @@ impl UplinkReceiver {
         requires opened { IsReceiverOf accepted.now self.old }
         requires blocks { IsSetOf accepted.now.config Up set blocks.old }
         ensures read { IfOk result (λ _. AreRead accepted.now self.old.rx_frames set blocks.new) }
-        ensures bad { IfErr result (λ bad. IsBadTti accepted.now.config.uplink.side self.old.rx_frames set bad.channel bad.frame) }
+        ensures bad { IfErr result (λ bad. IsBadTti accepted.now.config.uplink.side self.old.rx_frames set bad.channel
+            bad.frame) }
         ensures blocks { IsSetOf accepted.now.config Up set blocks.new }
         ensures opened { IsReceiverOf accepted.now self.new }
         ensures same { self.new.rx_frames ≡ self.old.rx_frames }
@@ -102,7 +104,8 @@ impl UplinkReceiver {
         requires blocks { IsSetOf accepted.now.config Up set blocks.old }
         requires channel { channel < length accepted.now.config.uplink.side.channels }
         requires member { (channel_at accepted.now.config.uplink.side channel).set ≡ set }
-        ensures read { IfOk result (λ _. IsTtiRead accepted.now self.old.rx_frames channel (held_at blocks.new.blocks channel)) }
+        ensures read { IfOk result (λ _. IsTtiRead accepted.now self.old.rx_frames channel
+            (held_at blocks.new.blocks channel)) }
         ensures bad { IfErr result (λ bad. (bad.channel ≡ channel) ×
             IsBadFrame accepted.now.config.uplink.side self.old.rx_frames channel bad.frame) }
         ensures others { (j : ℕ) → j ≢ channel → held_at blocks.new.blocks j ≡ held_at blocks.old.blocks j }

@@ -79,7 +79,8 @@ pub fn receive<U: Indications>(
     requires tx_buffers { AreTxBuffersOf accepted.now Up tx_buffers.old }
     requires quiet { (s : ℕ) → s < 8 → (tx_buffer_at tx_buffers.old s).sent ≡ None }
     requires tfci { HasTfci accepted.now Up frame }
-    ensures { Receives U.shows accepted.now cfn (radio_of frame.entry) receiver.old.rx_frames tx_buffers.new receiver.new user.old user.new }
+    ensures { Receives U.shows accepted.now cfn (radio_of frame.entry)
+        receiver.old.rx_frames tx_buffers.new receiver.new user.old user.new }
 {
     receiver.push(accepted, cfn, frame);
     for set in 0..SETS {

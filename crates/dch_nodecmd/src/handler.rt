@@ -86,7 +86,8 @@ impl<N: CommandNode + Drop> NodeHandler<N> {
         ensures opened { IsReady N.rules N.is_opened N.has_next N.represents N.shows self →
             N.is_opened self.accepted result }
         ensures history { (run : Run N.State N.Event) → RepresentsRun N.rules N.represents N.shows run self →
-            RepresentsHistory N.rules N.represents N.shows run.began self.accepted run.first run.events run.lines result }
+            RepresentsHistory N.rules N.represents N.shows run.began self.accepted run.first run.events
+            run.lines result }
     {
         self.node
     }

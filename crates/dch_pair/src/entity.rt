@@ -68,7 +68,8 @@ impl AmEntity {
         ensures size { IfOk result (λ v. size_of v ≡ pdu) }
         ensures comes { IfOk result (λ v. size_in v ≡ comes) }
         ensures settled { IfOk result (λ v. is_settled v ≡ true) }
-        ensures stands { IfOk result (λ v. Represents (rules_of buffer rules) v (opened_entity (rules_of buffer rules))) }
+        ensures stands { IfOk result (λ v. Represents (rules_of buffer rules) v
+            (opened_entity (rules_of buffer rules))) }
     {
         let sender = AmSend::open(alloc, pdu, buffer, rules)?;
         let receiver = AmRecv::open(alloc, comes, pdu, rules)?;

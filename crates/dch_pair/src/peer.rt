@@ -61,7 +61,8 @@ impl Peer {
         ensures size { IfOk result (λ v. size_of v ≡ size) }
         ensures comes { IfOk result (λ v. size_in v ≡ comes) }
         ensures count { IfOk result (λ v. v.accepted ≡ 0) }
-        ensures history { IfOk result (λ v. IsPeer (rules_of buffer rules) v nothing_earlier (opened_entity (rules_of buffer rules))) }
+        ensures history { IfOk result (λ v. IsPeer (rules_of buffer rules) v nothing_earlier
+            (opened_entity (rules_of buffer rules))) }
     {
         let entity = AmEntity::open(alloc, size, comes, buffer, rules)?;
         Ok(Peer {

@@ -39,7 +39,8 @@ impl Running {
         requires window { setup.now.rules.window ≤ 2048 }
         ensures first { IfOk result (λ v. v.first.accepted ≡ 0) }
         ensures second { IfOk result (λ v. v.second.accepted ≡ 0) }
-        ensures history { IfOk result (λ v. AreRunning (rules_in setup.now) v.first v.second (pair_after setup.now [])) }
+        ensures history { IfOk result (λ v. AreRunning (rules_in setup.now) v.first v.second
+            (pair_after setup.now [])) }
     {
         let (one, other) = (setup.first_pdu, setup.second_pdu);
         let first = Peer::open(alloc, one, other, setup.buffer, setup.rules)?;

@@ -17,7 +17,8 @@ pub fn part(region: &[u8], size: usize, number: usize) -> &[u8]
 /// Writes zeros to a block.
 pub fn clear(region: &mut [u8], size: usize, number: usize)
     requires { number * size + size ≤ length region.old }
-    ensures { region.new ≡ take (number * size) region.old ++ (replicate size 0 ++ drop (number * size + size) region.old) }
+    ensures { region.new ≡ take (number * size) region.old ++
+        (replicate size 0 ++ drop (number * size + size) region.old) }
 {
     let at = number * size;
     region[at..at + size].fill(0);
@@ -27,7 +28,9 @@ pub fn clear(region: &mut [u8], size: usize, number: usize)
 pub fn overwrite(region: &mut [u8], size: usize, number: usize, at: usize, octets: &[u8])
     requires block { number * size + size ≤ length region.old }
     requires inside { at + length octets.now ≤ size }
-    ensures { region.new ≡ take (number * size) region.old ++ (overwritten (take size (drop (number * size) region.old)) at octets.now ++ drop (number * size + size) region.old) }
+    ensures { region.new ≡ take (number * size) region.old ++
+        (overwritten (take size (drop (number * size) region.old)) at octets.now ++
+        drop (number * size + size) region.old) }
 {
     write_from(region, number * size + at, octets);
 }

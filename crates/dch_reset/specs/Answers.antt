@@ -51,8 +51,10 @@ unless_pending None got = got
 unless_pending (Some p) got = Ignored
 
 abbrev pub answer : Rules → State → Pdu → Got
-answer rules e (DataPdu sn poll body rides) = unless_pending e.pending (entity_answer (received rules e.entity (DataPdu sn poll body rides)))
-answer rules e (StatusPdu fields) = unless_pending e.pending (entity_answer (received rules e.entity (StatusPdu fields)))
+answer rules e (DataPdu sn poll body rides) = unless_pending e.pending
+    (entity_answer (received rules e.entity (DataPdu sn poll body rides)))
+answer rules e (StatusPdu fields) = unless_pending e.pending
+    (entity_answer (received rules e.entity (StatusPdu fields)))
 answer rules e (ResetPdu rsn) = if is_heard e.heard rsn then Repeated else Restarted
 answer rules e (ResetAckPdu rsn) = if is_asked e.pending rsn then Restarted else Ignored
 

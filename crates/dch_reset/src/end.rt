@@ -90,7 +90,8 @@ impl ResetEnd {
         ensures size { IfOk result (λ v. size_of v ≡ pdu) }
         ensures reply { IfOk result (λ v. size_in v ≡ reply) }
         ensures settled { IfOk result (λ v. is_settled v ≡ true) }
-        ensures stands { IfOk result (λ v. Represents (rules_of buffer rules) v (opened_state (rules_of buffer rules))) }
+        ensures stands { IfOk result (λ v. Represents (rules_of buffer rules) v
+            (opened_state (rules_of buffer rules))) }
     {
         let entity = AmEntity::open(alloc, pdu, reply, buffer, rules)?;
         Ok(ResetEnd {

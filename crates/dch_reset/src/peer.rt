@@ -57,7 +57,8 @@ impl Peer {
         ensures size { IfOk result (λ v. size_of v ≡ size) }
         ensures comes { IfOk result (λ v. size_in v ≡ comes) }
         ensures count { IfOk result (λ v. v.accepted ≡ 0) }
-        ensures history { IfOk result (λ v. IsPeer (rules_of buffer rules) v (opened_reset_end (rules_of buffer rules) size)) }
+        ensures history { IfOk result (λ v. IsPeer (rules_of buffer rules) v
+            (opened_reset_end (rules_of buffer rules) size)) }
     {
         let end = ResetEnd::open(alloc, size, comes, buffer, rules)?;
         Ok(Peer {

@@ -42,7 +42,8 @@ impl Running {
         requires window { setup.now.rules.window ≤ 2048 }
         ensures first { IfOk result (λ v. v.first.accepted ≡ 0) }
         ensures second { IfOk result (λ v. v.second.accepted ≡ 0) }
-        ensures history { IfOk result (λ v. AreRunning (rules_in setup.now) v.first v.second v.to_second v.to_first (pair_after setup.now [])) }
+        ensures history { IfOk result (λ v. AreRunning (rules_in setup.now) v.first v.second v.to_second v.to_first
+            (pair_after setup.now [])) }
     {
         let (one, other) = (setup.first_pdu, setup.second_pdu);
         let first = Peer::open(alloc, one, other, setup.buffer, setup.rules)?;
@@ -64,7 +65,8 @@ impl Running {
         ensures second { self.new.second.accepted ≤ self.old.second.accepted + 1 }
         ensures history { IfOk result (λ _. (rules : Rules) (p : ResetPair) →
             AreRunning rules self.old.first self.old.second self.old.to_second self.old.to_first p →
-            AreRunning rules self.new.first self.new.second self.new.to_second self.new.to_first (happens rules p (seen octets.now event))) }
+            AreRunning rules self.new.first self.new.second self.new.to_second self.new.to_first
+            (happens rules p (seen octets.now event))) }
     {
         match side(event) {
             End::First => happen_at(

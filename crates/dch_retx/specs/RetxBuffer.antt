@@ -103,7 +103,8 @@ after_moves said l = after_ending (ending said l l.running) l
 -- the place of the first PDU that stays open where it does so
 abbrev pub base_after : Option ℕ → RetxBuffer → ℕ
 base_after None l = 0
-base_after (Some below) l = min below (length l.in_flight) + front_acked (drop (min below (length l.in_flight)) l.in_flight)
+base_after (Some below) l = min below (length l.in_flight) +
+    front_acked (drop (min below (length l.in_flight)) l.in_flight)
 
 -- the first number that is outside, where the PDU at a place is the lowest open one
 abbrev pub outside_from : ℕ → List StatusItem → RetxBuffer → Option ℕ
@@ -125,7 +126,8 @@ abbrev pub below_from : ℕ → List StatusItem → RetxBuffer → ℕ
 below_from base said l = below_said (number_at base l) said
 
 abbrev pub after_answer : StatusTaken → List StatusItem → RetxBuffer → RetxBuffer
-after_answer Taken said l = after_told (below_from (base_after (ending said l l.running) l) said l) said (after_moves said l)
+after_answer Taken said l = after_told (below_from (base_after (ending said l l.running) l) said l) said
+    (after_moves said l)
 after_answer (Outside i) said l = l
 
 abbrev pub after_hearing : List StatusItem → RetxBuffer → RetxBuffer

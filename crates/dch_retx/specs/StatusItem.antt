@@ -86,7 +86,8 @@ with_name first from to (Obeyed n sn) in_flight = in_flight
 
 abbrev pub with_names : ℕ → ℕ → ℕ → List StatusItem → List SentPdu → List SentPdu
 with_names first from to [] in_flight = in_flight
-with_names first from to (said ∷ rest) in_flight = with_names first from to rest (with_name first from to said in_flight)
+with_names first from to (said ∷ rest) in_flight = with_names first from to rest
+    (with_name first from to said in_flight)
 
 -- the place of the LSN, the first one where there is none
 abbrev pub below_said : ℕ → List StatusItem → ℕ
@@ -110,7 +111,8 @@ reports_some (Below x ∷ rest) = true
 abbrev pub ends_at : ℕ → ℕ → ℕ → ℕ → ℕ → ℕ → Option ℕ
 ends_at first count k indicator n sn =
     if (place_of (wrapped (first + k)) sn == 0) && (n == indicator) then Some k
-    else (if nat_lt 0 (place_of (wrapped (first + k)) sn) && nat_le (k + place_of (wrapped (first + k)) sn) count && (n == 0) then Some (k + place_of (wrapped (first + k)) sn) else None)
+    else (if nat_lt 0 (place_of (wrapped (first + k)) sn) && nat_le (k + place_of (wrapped (first + k)) sn) count &&
+    (n == 0) then Some (k + place_of (wrapped (first + k)) sn) else None)
 
 abbrev pub ends_with : ℕ → ℕ → ℕ → ℕ → StatusItem → Option ℕ
 ends_with first count k indicator (Missing x) = None

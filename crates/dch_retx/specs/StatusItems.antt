@@ -10,7 +10,7 @@ pub data StatusItem : Type 0 where
   Unset : (x : ℕ) → StatusItem  -- a BITMAP has the bit 0 for it
   Set : (x : ℕ) → StatusItem  -- a BITMAP has the bit 1 for it
   Below : (x : ℕ) → StatusItem  -- all numbers below it have arrived but for those that are named missing
-  Obeyed : (n : ℕ) → (sn : ℕ) → StatusItem  -- an MRW was obeyed: the receiver's lowest missing number, and the place n or 0
+  Obeyed : (n : ℕ) → (sn : ℕ) → StatusItem  -- an MRW was obeyed: the lowest missing number, and the place n or 0
 
 -- a number that a LIST names missing
 abbrev pub missing_of : ℕ → StatusItem

@@ -8,7 +8,8 @@ use Rattle.dch_retx.specs.declared.tell.Told.{Told}
 use Rattle.dch_retx.specs.StatusItem.{below_said, ending_of, ends_at, limit_in, reports_some}
 
 -- a status tells this
-pub record IsTold (told : Told) (window first count : ℕ) (running : Option Running) (said : List StatusItem) : Type 0 where
+pub record IsTold (told : Told) (window first count : ℕ) (running : Option Running)
+    (said : List StatusItem) : Type 0 where
   pub below : unwrap_or told.below 0 ≡ below_said first said
   pub reports : told.reports ≡ reports_some said
   pub ending : told.ending ≡ ending_of first count running said

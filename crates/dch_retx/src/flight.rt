@@ -79,7 +79,8 @@ impl Flight {
     /// and marked where it stands before `to`.
     pub fn name(&mut self, i: usize, from: usize, to: usize)
         requires { i < length self.old.items }
-        ensures { self.new ≡ buffer (slice_set self.old.items i (named_from from to i (at self.old.items i))) self.old.capacity }
+        ensures { self.new ≡ buffer (slice_set self.old.items i (named_from from to i (at self.old.items i)))
+            self.old.capacity }
     {
         if name_at(&mut self.ring, i, from, to) {
             self.requests.insert(i);

@@ -73,7 +73,8 @@ fn outside_ack(lsn: u16, sent: SentNumbers) -> Option<u16>
 fn outside_list(cursor: &Cursor<'_>, pairs: u8, sent: SentNumbers) -> Option<u16>
     requires pairs { pairs ≡ length (pairs_of (first_of cursor.now)) }
     requires sent { (sent.window ≤ 2048) × (sent.first < 4096) × (sent.count ≤ 2048) }
-    ensures { result ≡ first_outside sent.window sent.first sent.count (said_in (ListField (pairs_of (first_of cursor.now)))) }
+    ensures { result ≡ first_outside sent.window sent.first sent.count
+        (said_in (ListField (pairs_of (first_of cursor.now)))) }
 {
     for j in 0..pairs as usize {
         let run = cursor.pair(j);
@@ -109,7 +110,8 @@ fn outside_bits(cursor: &Cursor<'_>, first: u16, bits: u16, sent: SentNumbers) -
     requires number { first < 4096 }
     requires most { bits ≤ 128 }
     requires sent { (sent.window ≤ 2048) × (sent.first < 4096) × (sent.count ≤ 2048) }
-    ensures { result ≡ first_outside sent.window sent.first sent.count (said_in (BitmapField first (bits_of (first_of cursor.now)))) }
+    ensures { result ≡ first_outside sent.window sent.first sent.count
+        (said_in (BitmapField first (bits_of (first_of cursor.now)))) }
 {
     for j in 0..bits {
         let number = (first + j) % NUMBERS;

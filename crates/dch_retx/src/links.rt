@@ -80,7 +80,8 @@ fn acknowledge_one(
     requires small { i < 4096 }
     requires requests { AreRequests requests.old ring.old.items }
     ensures cleared { result ≡ ((at ring.old.items i).requested && not (acknowledged (at ring.old.items i)).requested) }
-    ensures after { ring.new ≡ buffer (slice_set ring.old.items i (acknowledged (at ring.old.items i))) ring.old.capacity }
+    ensures after { ring.new ≡ buffer (slice_set ring.old.items i (acknowledged (at ring.old.items i)))
+        ring.old.capacity }
     ensures requests { AreRequests requests.new ring.new.items }
 {
     if !acknowledge_at(ring, i) {
@@ -102,7 +103,8 @@ fn join(
     requires before { IfSome before (λ o. (o < next) × (o < length skips.old.items)) }
     requires small { next ≤ 65536 }
     ensures before { result ≡ before_next (at ring.now.items i).acked before i }
-    ensures after { skips.new ≡ buffer (joined (at ring.now.items i).acked before next skips.old.items) skips.old.capacity }
+    ensures after { skips.new ≡ buffer (joined (at ring.now.items i).acked before next skips.old.items)
+        skips.old.capacity }
 {
     if !is_acked(ring, i) {
         return Some(i);

@@ -23,7 +23,8 @@ pub struct Naming {
 pub fn name(flight: &mut Flight, status: &StatusView<'_>, naming: Naming) -> bool
     requires { naming.first < 4096 }
     ensures named { result ≡ is_named naming.first naming.polled (said_by status.now) }
-    ensures after { flight.new ≡ buffer (with_names naming.first naming.from naming.to (said_by status.now) flight.old.items) flight.old.capacity }
+    ensures after { flight.new ≡ buffer (with_names naming.first naming.from naming.to (said_by status.now)
+        flight.old.items) flight.old.capacity }
 {
     let mut named = false;
     let mut cursor = status.cursor();
@@ -40,7 +41,8 @@ fn name_field(flight: &mut Flight, cursor: &Cursor<'_>, naming: Naming) -> bool
     requires some { 0 < length cursor.now }
     requires first { naming.first < 4096 }
     ensures named { result ≡ is_named naming.first naming.polled (said_in (first_of cursor.now)) }
-    ensures after { flight.new ≡ buffer (with_names naming.first naming.from naming.to (said_in (first_of cursor.now)) flight.old.items) flight.old.capacity }
+    ensures after { flight.new ≡ buffer (with_names naming.first naming.from naming.to (said_in (first_of cursor.now))
+        flight.old.items) flight.old.capacity }
 {
     match cursor.field() {
         Sufi::List { pairs } => name_list(flight, cursor, pairs, naming),
@@ -57,8 +59,10 @@ fn name_field(flight: &mut Flight, cursor: &Cursor<'_>, naming: Naming) -> bool
 fn name_list(flight: &mut Flight, cursor: &Cursor<'_>, pairs: u8, naming: Naming) -> bool
     requires pairs { pairs ≡ length (pairs_of (first_of cursor.now)) }
     requires first { naming.first < 4096 }
-    ensures named { result ≡ is_named naming.first naming.polled (said_in (ListField (pairs_of (first_of cursor.now)))) }
-    ensures after { flight.new ≡ buffer (with_names naming.first naming.from naming.to (said_in (ListField (pairs_of (first_of cursor.now)))) flight.old.items) flight.old.capacity }
+    ensures named { result ≡ is_named naming.first naming.polled
+        (said_in (ListField (pairs_of (first_of cursor.now)))) }
+    ensures after { flight.new ≡ buffer (with_names naming.first naming.from naming.to
+        (said_in (ListField (pairs_of (first_of cursor.now)))) flight.old.items) flight.old.capacity }
 {
     let mut named = false;
     for j in 0..pairs as usize {
@@ -74,7 +78,8 @@ fn name_run(flight: &mut Flight, run: (u16, u8), naming: Naming) -> bool
     requires number { run.0 < 4096 }
     requires first { naming.first < 4096 }
     ensures named { result ≡ is_named naming.first naming.polled (map missing_of (range run.0 (run.1 + 1))) }
-    ensures after { flight.new ≡ buffer (with_names naming.first naming.from naming.to (map missing_of (range run.0 (run.1 + 1))) flight.old.items) flight.old.capacity }
+    ensures after { flight.new ≡ buffer (with_names naming.first naming.from naming.to
+        (map missing_of (range run.0 (run.1 + 1))) flight.old.items) flight.old.capacity }
 {
     let (first, more) = run;
     let mut named = false;
@@ -97,8 +102,10 @@ fn name_bits(
     requires number { first < 4096 }
     requires most { bits ≤ 128 }
     requires first { naming.first < 4096 }
-    ensures named { result ≡ is_named naming.first naming.polled (said_in (BitmapField first (bits_of (first_of cursor.now)))) }
-    ensures after { flight.new ≡ buffer (with_names naming.first naming.from naming.to (said_in (BitmapField first (bits_of (first_of cursor.now)))) flight.old.items) flight.old.capacity }
+    ensures named { result ≡ is_named naming.first naming.polled
+        (said_in (BitmapField first (bits_of (first_of cursor.now)))) }
+    ensures after { flight.new ≡ buffer (with_names naming.first naming.from naming.to
+        (said_in (BitmapField first (bits_of (first_of cursor.now)))) flight.old.items) flight.old.capacity }
 {
     let mut named = false;
     for j in 0..bits {
@@ -113,7 +120,8 @@ fn name_bits(
 fn name_bit(flight: &mut Flight, bit: bool, number: u16, naming: Naming) -> bool
     requires { naming.first < 4096 }
     ensures named { result ≡ names_place naming.first naming.polled (bit_item bit number) }
-    ensures after { flight.new ≡ buffer (with_name naming.first naming.from naming.to (bit_item bit number) flight.old.items) flight.old.capacity }
+    ensures after { flight.new ≡ buffer (with_name naming.first naming.from naming.to (bit_item bit number)
+        flight.old.items) flight.old.capacity }
 {
     if bit {
         return false;
@@ -125,7 +133,8 @@ fn name_bit(flight: &mut Flight, bit: bool, number: u16, naming: Naming) -> bool
 fn name_one(flight: &mut Flight, number: u16, naming: Naming) -> bool
     requires { naming.first < 4096 }
     ensures named { result ≡ names_place naming.first naming.polled (Missing number) }
-    ensures after { flight.new ≡ buffer (with_name naming.first naming.from naming.to (Missing number) flight.old.items) flight.old.capacity }
+    ensures after { flight.new ≡ buffer (with_name naming.first naming.from naming.to (Missing number) flight.old.items)
+        flight.old.capacity }
 {
     let place = place_of(naming.first, number);
     if (place as usize) < flight.len() {

@@ -25,8 +25,10 @@ pub fn is_acked(ring: &HeapCircularBuffer<SentPdu>, i: usize) -> bool
 /// `to`. Answers whether it is requested since.
 pub fn name_at(ring: &mut HeapCircularBuffer<SentPdu>, i: usize, from: usize, to: usize) -> bool
     requires { i < length ring.old.items }
-    ensures newly { result ≡ (not (at ring.old.items i).requested && (named_from from to i (at ring.old.items i)).requested) }
-    ensures after { ring.new ≡ buffer (slice_set ring.old.items i (named_from from to i (at ring.old.items i))) ring.old.capacity }
+    ensures newly { result ≡ (not (at ring.old.items i).requested &&
+        (named_from from to i (at ring.old.items i)).requested) }
+    ensures after { ring.new ≡ buffer (slice_set ring.old.items i (named_from from to i (at ring.old.items i)))
+        ring.old.capacity }
 {
     let Some(pdu) = ring.get_mut(i) else {
         return false;
@@ -43,7 +45,8 @@ pub fn name_at(ring: &mut HeapCircularBuffer<SentPdu>, i: usize, from: usize, to
 pub fn acknowledge_at(ring: &mut HeapCircularBuffer<SentPdu>, i: usize) -> bool
     requires { i < length ring.old.items }
     ensures cleared { result ≡ ((at ring.old.items i).requested && not (acknowledged (at ring.old.items i)).requested) }
-    ensures after { ring.new ≡ buffer (slice_set ring.old.items i (acknowledged (at ring.old.items i))) ring.old.capacity }
+    ensures after { ring.new ≡ buffer (slice_set ring.old.items i (acknowledged (at ring.old.items i)))
+        ring.old.capacity }
 {
     let Some(pdu) = ring.get_mut(i) else {
         return false;

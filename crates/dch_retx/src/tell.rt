@@ -88,7 +88,8 @@ fn tell_ack(lsn: u16, told: Told, sent: SentNumbers) -> Told
 fn tell_list(cursor: &Cursor<'_>, pairs: u8, told: Told, sent: SentNumbers) -> Told
     requires pairs { pairs ≡ length (pairs_of (first_of cursor.now)) }
     requires sent { (sent.window ≤ 2048) × (sent.first < 4096) × (sent.count ≤ 2048) }
-    ensures { IsPassed result told sent.window sent.first sent.count (said_in (ListField (pairs_of (first_of cursor.now)))) }
+    ensures { IsPassed result told sent.window sent.first sent.count
+        (said_in (ListField (pairs_of (first_of cursor.now)))) }
 {
     let limit = limit_list(cursor, pairs, sent);
     tell_more(told, pairs > 0, limit)
@@ -100,7 +101,8 @@ fn tell_bits(cursor: &Cursor<'_>, first: u16, bits: u16, told: Told, sent: SentN
     requires number { first < 4096 }
     requires most { bits ≤ 128 }
     requires sent { (sent.window ≤ 2048) × (sent.first < 4096) × (sent.count ≤ 2048) }
-    ensures { IsPassed result told sent.window sent.first sent.count (said_in (BitmapField first (bits_of (first_of cursor.now)))) }
+    ensures { IsPassed result told sent.window sent.first sent.count
+        (said_in (BitmapField first (bits_of (first_of cursor.now)))) }
 {
     let limit = limit_bits(cursor, first, bits, sent);
     tell_more(told, bits > 0, limit)
@@ -122,7 +124,8 @@ fn tell_more(told: Told, reports: bool, limit: u16) -> Told
 fn limit_list(cursor: &Cursor<'_>, pairs: u8, sent: SentNumbers) -> u16
     requires pairs { pairs ≡ length (pairs_of (first_of cursor.now)) }
     requires sent { (sent.window ≤ 2048) × (sent.first < 4096) × (sent.count ≤ 2048) }
-    ensures { result ≡ limit_in sent.window sent.first sent.count (said_in (ListField (pairs_of (first_of cursor.now)))) }
+    ensures { result ≡ limit_in sent.window sent.first sent.count
+        (said_in (ListField (pairs_of (first_of cursor.now)))) }
 {
     let mut limit = NO_LIMIT;
     for j in 0..pairs as usize {
@@ -154,7 +157,8 @@ fn limit_bits(cursor: &Cursor<'_>, first: u16, bits: u16, sent: SentNumbers) -> 
     requires number { first < 4096 }
     requires most { bits ≤ 128 }
     requires sent { (sent.window ≤ 2048) × (sent.first < 4096) × (sent.count ≤ 2048) }
-    ensures { result ≡ limit_in sent.window sent.first sent.count (said_in (BitmapField first (bits_of (first_of cursor.now)))) }
+    ensures { result ≡ limit_in sent.window sent.first sent.count
+        (said_in (BitmapField first (bits_of (first_of cursor.now)))) }
 {
     let mut limit = NO_LIMIT;
     for j in 0..bits {

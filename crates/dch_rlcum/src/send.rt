@@ -123,7 +123,8 @@ impl UmSend {
         ensures text { out.new ≡ pdu_of self.old }
         ensures after { self.new ≡ after_build self.old }
         // the octets are the most that find room with their indicators
-        ensures most { IsCarried (room_of self.old.pdu self.old.mark_start self.old.units) 0 self.old.units.lengths (carried_by self.old) }
+        ensures most { IsCarried (room_of self.old.pdu self.old.mark_start self.old.units) 0 self.old.units.lengths
+            (carried_by self.old) }
         ensures history { (units : List (List ℕ)) (cuts : List ℕ) → IsSenderOf units cuts self.old →
             IsSenderOf units (cuts ++ length units ∷ []) self.new }
         // it is the next of the list of PDUs
@@ -141,7 +142,8 @@ impl UmSend {
         ensures text { out.new ≡ pdu_of self.old }
         ensures after { self.new ≡ after_build self.old }
         // the octets are the most that find room with their indicators
-        ensures most { IsCarried (room_of self.old.pdu self.old.mark_start self.old.units) 0 self.old.units.lengths (carried_by self.old) }
+        ensures most { IsCarried (room_of self.old.pdu self.old.mark_start self.old.units) 0 self.old.units.lengths
+            (carried_by self.old) }
     {
         let lead = lead(&self.sdus, &self.start, self.owed, self.mark_start);
         let room = self.pdu - 1 - usize::from(lead.is_some());

@@ -38,12 +38,14 @@ pub record IsFilled (planned : Planned) (set : ℕ) (octets : List ℕ) (held : 
   pub read : IsReadForm planned.config Up set octets cfn qe held
 
 -- a frame was read, and layer 2 took its blocks
-pub record IsTaken {S : Type 0} (shows : S → Line → S → Type 0) (planned : Planned) (set : ℕ) (octets : List ℕ) (held : HeldSet) (old new : LayerRunning) (before after : S) : Type 0 where
+pub record IsTaken {S : Type 0} (shows : S → Line → S → Type 0) (planned : Planned) (set : ℕ) (octets : List ℕ)
+    (held : HeldSet) (old new : LayerRunning) (before after : S) : Type 0 where
   pub filled : IsFilled planned set octets held
   pub takes : TakesSet shows planned set held old new before after
 
 -- or refused, which is told
-pub record IsRefused {S : Type 0} (shows : S → Line → S → Type 0) (planned : Planned) (set : ℕ) (octets : List ℕ) (old new : LayerRunning) (before after : S) : Type 0 where
+pub record IsRefused {S : Type 0} (shows : S → Line → S → Type 0) (planned : Planned) (set : ℕ) (octets : List ℕ)
+    (old new : LayerRunning) (before after : S) : Type 0 where
   pub error : IubError
   pub cause : IsCause planned.config Up set octets error
   pub same : new ≡ old
@@ -51,11 +53,14 @@ pub record IsRefused {S : Type 0} (shows : S → Line → S → Type 0) (planned
 
 abbrev pub Answers : {S : Type 0} → (S → Line → S → Type 0) → Planned → ℕ → List ℕ → Bool → HeldSet → LayerRunning
     → LayerRunning → S → S → Type 0
-Answers shows planned set octets true held old new before after = IsTaken shows planned set octets held old new before after
-Answers shows planned set octets false held old new before after = IsRefused shows planned set octets old new before after
+Answers shows planned set octets true held old new before after =
+    IsTaken shows planned set octets held old new before after
+Answers shows planned set octets false held old new before after =
+    IsRefused shows planned set octets old new before after
 
 -- an Iub frame came for a set, which was read or not
-pub record Receives {S : Type 0} (shows : S → Line → S → Type 0) (planned : Planned) (set : ℕ) (octets : List ℕ) (read : Bool) (rx_sets : List HeldSet) (old new : LayerRunning) (before after : S) : Type 0 where
+pub record Receives {S : Type 0} (shows : S → Line → S → Type 0) (planned : Planned) (set : ℕ) (octets : List ℕ)
+    (read : Bool) (rx_sets : List HeldSet) (old new : LayerRunning) (before after : S) : Type 0 where
   pub few : set < 8
   pub opened : AreRxSetsOf planned rx_sets
   pub answers : Answers shows planned set octets read (rx_set_at rx_sets set) old new before after
@@ -89,13 +94,15 @@ Gives config cfn v set (Some octets) = (starts (set_frames config.downlink.side 
     × IsFrameOf config cfn v set octets
 
 -- a set was served
-pub record Serves {S : Type 0} (shows : S → Line → S → Type 0) (planned : Planned) (cfn : ℕ) (v : LayerRunning) (set : ℕ) (tx_buffer : IubTxBuffer) (before after : S) : Type 0 where
+pub record Serves {S : Type 0} (shows : S → Line → S → Type 0) (planned : Planned) (cfn : ℕ) (v : LayerRunning)
+    (set : ℕ) (tx_buffer : IubTxBuffer) (before after : S) : Type 0 where
   pub opened : IsTxBufferOf planned Down set tx_buffer
   pub gives : Gives planned.config cfn v set tx_buffer.sent
   pub told : Told shows before (sent_line set tx_buffer.sent) after
 
 -- the first sets were served, and the others send nothing
-pub record AreServed {S : Type 0} (shows : S → Line → S → Type 0) (planned : Planned) (cfn : ℕ) (v : LayerRunning) (count : ℕ) (tx_buffers : List IubTxBuffer) (before after : S) : Type 0 where
+pub record AreServed {S : Type 0} (shows : S → Line → S → Type 0) (planned : Planned) (cfn : ℕ) (v : LayerRunning)
+    (count : ℕ) (tx_buffers : List IubTxBuffer) (before after : S) : Type 0 where
   pub opened : AreTxBuffersOf planned Down tx_buffers
   pub sets : (s : ℕ) → s < count → Gives planned.config cfn v s (sent_of tx_buffers s)
   pub later : (s : ℕ) → count ≤ s → s < 8 → sent_of tx_buffers s ≡ None

@@ -100,7 +100,8 @@ Stepped planned old event node Says = TakesStep Steps (Represents planned) Shows
 -- a network controller stands for what happened since it was opened for a configuration, with the lines of all of them;
 -- this one is active now
 abbrev pub RepresentsHistory : Planned → Planned → ℕ → List Event → List Line → Node → Type 0
-RepresentsHistory began planned first events lines node = HasHistory Steps (Represents planned) Shows (opened_state began first) events lines node
+RepresentsHistory began planned first events lines node =
+    HasHistory Steps (Represents planned) Shows (opened_state began first) events lines node
 
 -- one more event, with the lines of which whoever is told is told
 abbrev pub ExtendsHistory : Planned → Planned → ℕ → List Event → List Line → Event → Node → (List Line → Type 0)

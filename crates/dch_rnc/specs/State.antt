@@ -33,7 +33,8 @@ no_readings i = Nothing
 
 -- the channels of a set are read
 abbrev pub set_readings : Side → ℕ → HeldSet → ℕ → Reading
-set_readings side set held i = if nat_lt i (length side.channels) && (channel_at side i).set == set then Read (held_at held.blocks i) else Nothing
+set_readings side set held i = if nat_lt i (length side.channels) && (channel_at side i).set == set
+    then Read (held_at held.blocks i) else Nothing
 
 -- at opening every channel runs its idle format, and nothing is read
 abbrev pub opened_state : Planned → ℕ → State

@@ -22,7 +22,8 @@ use Rattle.dch_rnc.specs.State.{Change, Event, OfferedUnit, BlockedCombination, 
 
 -- an Iub frame is read, whatever its CFN is, and the blocks of its channels go up in rising order of channels (TS
 -- 25.427 6.2)
-pub record IsReadFrame (planned : Planned) (old : State) (set : ℕ) (octets : List ℕ) (new : State) (output : Output) : Type 0 where
+pub record IsReadFrame (planned : Planned) (old : State) (set : ℕ) (octets : List ℕ) (new : State)
+    (output : Output) : Type 0 where
   pub cfn : ℕ
   pub qe : ℕ
   pub held : HeldSet
@@ -36,7 +37,8 @@ pub record IsReadFrame (planned : Planned) (old : State) (set : ℕ) (octets : L
       (length planned.config.uplink.side.channels) old.layer).lines
 
 -- it is refused: this is reported, and nothing changes
-pub record IsRefusedFrame (planned : Planned) (old : State) (set : ℕ) (octets : List ℕ) (new : State) (output : Output) : Type 0 where
+pub record IsRefusedFrame (planned : Planned) (old : State) (set : ℕ) (octets : List ℕ) (new : State)
+    (output : Output) : Type 0 where
   pub error : IubError
   pub cause : IsCause planned.config Up set octets error
   pub state : new ≡ record old { readings = no_readings }
@@ -78,7 +80,8 @@ pub record IsTick (planned : Planned) (old new : State) (output : Output) : Type
   pub no_radio : output.sent ≡ None
 
 -- a unit is offered
-pub record IsOffer (planned : Planned) (old : State) (b : ℕ) (octets : List ℕ) (bits : List Bit) (new : State) (output : Output) : Type 0 where
+pub record IsOffer (planned : Planned) (old : State) (b : ℕ) (octets : List ℕ) (bits : List Bit) (new : State)
+    (output : Output) : Type 0 where
   pub state : new ≡ with_layer old (offers planned.config Down b octets bits old.layer).layer
   pub reported : output ≡ says (offers planned.config Down b octets bits old.layer).lines
 

@@ -50,7 +50,8 @@ iub_shown node s = (tx_buffer_at node.tx_buffers s).sent
 -- the blocks of channel i, where it belongs to the set that was read
 abbrev pub blocks_if_read : Option ℕ → List ℕ → List HeldSet → ℕ → Option Held
 blocks_if_read None channel_sets rx_sets i = None
-blocks_if_read (Some set) channel_sets rx_sets i = if slice_index channel_sets i == set then Some (held_at (rx_set_at rx_sets set).blocks i) else None
+blocks_if_read (Some set) channel_sets rx_sets i = if slice_index channel_sets i == set
+    then Some (held_at (rx_set_at rx_sets set).blocks i) else None
 
 -- the blocks of channel i that the last step read
 abbrev pub taken_shown : Node → ℕ → Option Held

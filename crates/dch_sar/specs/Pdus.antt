@@ -82,7 +82,8 @@ abbrev pub pdu_at : ℕ → Bool → List ℕ → Front → Pdu
 pdu_at size starts ns f = record {
   first = lead starts ns f;
   ends = ends_marked size starts ns f;
-  last = padding size (length (lead starts ns f) + (reach size starts ns f - f.from) + length (ends_marked size starts ns f));
+  last = padding size (length (lead starts ns f) + (reach size starts ns f - f.from) +
+      length (ends_marked size starts ns f));
   from = f.from;
   to = reach size starts ns f;
 }
@@ -94,7 +95,8 @@ has_pdu ns f = nat_lt f.from (total ns) || f.owed
 -- the PDUs with these cuts of units of these lengths, from a place on
 abbrev pub pdus_from : ℕ → Bool → List ℕ → Front → List ℕ → List Pdu
 pdus_from size starts ns f [] = []
-pdus_from size starts ns f (cut ∷ cuts) = pdu_at size starts (take cut ns) f ∷ pdus_from size starts ns (next_front size starts (take cut ns) f) cuts
+pdus_from size starts ns f (cut ∷ cuts) = pdu_at size starts (take cut ns) f ∷ pdus_from size starts ns
+    (next_front size starts (take cut ns) f) cuts
 
 abbrev pub pdus : ℕ → Bool → List ℕ → List ℕ → List Pdu
 pdus size starts ns cuts = pdus_from size starts ns first_front cuts

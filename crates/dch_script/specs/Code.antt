@@ -31,7 +31,8 @@ crc_of word = if bytes_eq word (codes "0") then Some C0
 
 -- a text of 1 to so many letters 0 and 1, or a dot for no bit
 abbrev pub is_bits : ℕ → List ℕ → Bool
-is_bits most text = bytes_eq text (codes ".") || (nat_lt 0 (length text) && (nat_le (length text) most && list_all (λ c. c == 48 || c == 49) text))
+is_bits most text = bytes_eq text (codes ".") || (nat_lt 0 (length text) &&
+    (nat_le (length text) most && list_all (λ c. c == 48 || c == 49) text))
 
 abbrev pub code_of : Option Coding → Option Crc → List ℕ → Result CodeLine LineError
 code_of (Some coding) (Some crc) bits = if is_bits 5000 bits then Ok (record {

@@ -105,6 +105,7 @@ stage_meaning config line = do
 abbrev pub IsOfStages : Config → ParsedStage → Type 0
 IsOfStages config (load dir i f bits) =
     (i < length (side_of config dir).channels) × (f < length (channel_at (side_of config dir) i).formats)
-    × (is_all_bits ((format_at (channel_at (side_of config dir) i) f).number * (format_at (channel_at (side_of config dir) i) f).size) bits ≡ true)
+    × (is_all_bits ((format_at (channel_at (side_of config dir) i) f).number *
+    (format_at (channel_at (side_of config dir) i) f).size) bits ≡ true)
 IsOfStages config (frame dir c) = c < length (side_of config dir).combinations
 IsOfStages config (ask question dir i n) = i < length (side_of config dir).channels

@@ -15,7 +15,8 @@ is_word_of_bits count text = length text == count && list_all (λ c. c == 48 || 
 
 -- a text of 1 to so many letters 0, 1 and -, or a dot for no cell
 unfoldable pub is_cells : ℕ → List ℕ → Bool
-is_cells most text = bytes_eq text (codes ".") || (nat_lt 0 (length text) && (nat_le (length text) most && list_all (λ c. c == 48 || (c == 49 || c == 45)) text))
+is_cells most text = bytes_eq text (codes ".") || (nat_lt 0 (length text) &&
+    (nat_le (length text) most && list_all (λ c. c == 48 || (c == 49 || c == 45)) text))
 
 -- the cells of a radio frame of a direction: bits in the uplink, and in the downlink any of 0, 1 and -; at most 57,600
 -- letters
@@ -25,7 +26,8 @@ are_cells Down text = is_cells 57600 text
 
 -- a text of two hexadecimal digits an octet, in either case, or a dot for no octet
 unfoldable pub is_octets : List ℕ → Bool
-is_octets text = bytes_eq text (codes ".") || (nat_lt 0 (length text) && (length text % 2 == 0 && list_all is_hex_digit text))
+is_octets text = bytes_eq text (codes ".") || (nat_lt 0 (length text) &&
+    (length text % 2 == 0 && list_all is_hex_digit text))
 
 -- the text of a unit: at most 5,000 bits of a transparent bearer, and at most 2,000 octets of another one
 unfoldable pub is_unit : Mode → List ℕ → Bool

@@ -23,8 +23,8 @@ pub enum Question {
 /// What a line says of which the stages of coding are shown.
 #[derive(Clone, Copy)]
 pub enum StageLine<'a> {
-    /// The transport blocks of the next TTI of a channel, in a format: `bits` is the text of all their bits, as it stands in the
-    /// line, none as `.`.
+    /// The transport blocks of the next TTI of a channel, in a format: `bits` is the text of all their bits, as it
+    /// stands in the line, none as `.`.
     Load {
         dir: Dir,
         channel: u8,
@@ -45,8 +45,9 @@ pub enum StageLine<'a> {
     },
 }
 
-/// Reads a line under a configuration, with its line feed where the input has one. Of a line that is too long, the first
-/// 1,048,577 bytes are enough. `LineError::When` is left to the caller, as is what depends on the TTI that is loaded.
+/// Reads a line under a configuration, with its line feed where the input has one. Of a line that is too long, the
+/// first 1,048,577 bytes are enough. `LineError::When` is left to the caller, as is what depends on the TTI that is
+/// loaded.
 pub fn parse_stage<'a>(config: &Config, line: &'a [u8]) -> Result<StageLine<'a>, LineError>
     ensures says { parsed_stage result ≡ stage_meaning config.now line.entry.now }
     ensures good { IfOk result (λ parsed. IsOfStages config.now (stage_of parsed)) }

@@ -56,7 +56,8 @@ pub fn report_law()
     ensures takes { (config : Config) (into : Dir) (channel k : ℕ) (came : List Came) (layer : Layer) → IsGood config →
         channel < length (side_of config into).channels → k + length came ≤ 1000 → AreBlocks config into channel came →
         AreBounded config layer →
-        length (text_of (takes config into channel k came layer).lines) + layer_bytes config (takes config into channel k came layer).layer
+        length (text_of (takes config into channel k came layer).lines) +
+        layer_bytes config (takes config into channel k came layer).layer
         ≤ layer_bytes config layer + length came * 5200 }
 {}
 

@@ -108,7 +108,8 @@ fn nothing() -> [u8; 128]
 fn by_place(out: &[u8; 128]) -> [u8; 32]
     requires { (k : ℕ) → k < 128 → slice_index out.now k ≤ 1 }
     ensures { (i : ℕ) → i < 32 → slice_index result i ≡
-        slice_index out.now i + slice_index out.now (32 + i) + slice_index out.now (64 + i) + slice_index out.now (96 + i) }
+        slice_index out.now i + slice_index out.now (32 + i) + slice_index out.now (64 + i) +
+        slice_index out.now (96 + i) }
 {
     let mut sums = [0u8; 32];
     for i in 0..32usize {

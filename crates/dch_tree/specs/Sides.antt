@@ -79,7 +79,8 @@ uplink_of ms = record {
 
 -- the keys of the downlink
 abbrev pub downlink_keys : List (List ℕ)
-downlink_keys = codes "slot_bits" ∷ codes "codes" ∷ codes "sf" ∷ codes "positions" ∷ codes "combinations" ∷ codes "channel" ∷ []
+downlink_keys = codes "slot_bits" ∷ codes "codes" ∷ codes "sf" ∷ codes "positions" ∷ codes "combinations" ∷ codes
+    "channel" ∷ []
 
 unfoldable pub downlink_faults : List ℕ → Members → List Fault
 downlink_faults path ms =

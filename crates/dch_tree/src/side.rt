@@ -78,7 +78,8 @@ fn has(seen: &[SetTti], pair: SetTti) -> bool
 impl Faults {
     fn channels(&mut self, path: &str, items: &[Value]) -> Result<Sequence<Trch>, NoMemory>
         ensures first { OnOk result (self.new.first ≡
-            first_found self.old.first (items_faults channel_faults path.now (codes "channel") 0 (items_view items.now))) }
+            first_found self.old.first (items_faults channel_faults path.now (codes "channel") 0
+            (items_view items.now))) }
         ensures value { IfOk result (λ channels. channels ≡ items_values channel_of (items_view items.now)) }
     {
         let mut channels = Sequence::new(self.alloc);

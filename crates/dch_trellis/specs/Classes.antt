@@ -13,7 +13,8 @@ table_bit table i t = slice_index_or (slice_index_or table t []) i Zero
 
 -- the three bits of the table at a pair of states, as a number
 abbrev pub class_at : List (List Bit) → ℕ → ℕ
-class_at table i = number_of (table_bit table i 0) + 2 * number_of (table_bit table i 1) + 4 * number_of (table_bit table i 2)
+class_at table i = number_of (table_bit table i 0) + 2 * number_of (table_bit table i 1) +
+    4 * number_of (table_bit table i 2)
 
 -- the copies of a step that differ from the three bits of a class
 abbrev pub class_metric : List Vote → ℕ → ℕ

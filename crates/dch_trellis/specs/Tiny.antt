@@ -21,7 +21,8 @@ IsLoweredFrom rate votes size filler from rows = (k : ℕ) → from ≤ k → k 
     × IsLowered rate votes size filler k base (slice_index_or rows k [])
 
 -- the rows from step k on hold least costs less a base, and row k none above a bound
-pub record IsFilled (rate : Rate) (votes : List Vote) (size filler k base most : ℕ) (rows : List (List ℕ)) : Type 0 where
+pub record IsFilled (rate : Rate) (votes : List Vote) (size filler k base most : ℕ)
+    (rows : List (List ℕ)) : Type 0 where
   pub rows_from : IsLoweredFrom rate votes size filler k rows
   pub here : IsLowered rate votes size filler k base (slice_index_or rows k [])
   pub small : (s : ℕ) → s < 256 → slice_index (slice_index_or rows k []) s ≤ most

@@ -38,10 +38,12 @@ is_more few many = if nat_lt few many then 1 else 0
 
 -- where more copies of a step are Zero, and where more are One, as numbers of three bits
 abbrev pub more_zeros : List Vote → ℕ
-more_zeros step = is_more (vote_at step 0).ones (vote_at step 0).zeros + 2 * is_more (vote_at step 1).ones (vote_at step 1).zeros + 4 * is_more (vote_at step 2).ones (vote_at step 2).zeros
+more_zeros step = is_more (vote_at step 0).ones (vote_at step 0).zeros +
+    2 * is_more (vote_at step 1).ones (vote_at step 1).zeros + 4 * is_more (vote_at step 2).ones (vote_at step 2).zeros
 
 abbrev pub more_ones : List Vote → ℕ
-more_ones step = is_more (vote_at step 0).zeros (vote_at step 0).ones + 2 * is_more (vote_at step 1).zeros (vote_at step 1).ones + 4 * is_more (vote_at step 2).zeros (vote_at step 2).ones
+more_ones step = is_more (vote_at step 0).zeros (vote_at step 0).ones +
+    2 * is_more (vote_at step 1).zeros (vote_at step 1).ones + 4 * is_more (vote_at step 2).zeros (vote_at step 2).ones
 
 -- what an input costs, by the outputs at input Zero
 abbrev pub input_metric : List Vote → ℕ → Bit → ℕ

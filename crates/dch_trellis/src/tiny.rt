@@ -79,7 +79,8 @@ fn fill(
     requires states { (k : ℕ) → k ≤ front.now.steps → slice_index front.now.states k < 256 }
     ensures within { result.from ≤ front.now.steps }
     ensures rows { IsLoweredFrom rate votes.now size filler result.from rows.new }
-    ensures first { IsLowered rate votes.now size filler result.from result.taken (slice_index_or rows.new result.from []) }
+    ensures first { IsLowered rate votes.now size filler result.from result.taken
+        (slice_index_or rows.new result.from []) }
     ensures few { result.taken < 2 ^ 31 }
     ensures least { MeetsLeast rate votes.now size filler result.from (slice_index front.now.states result.from) }
 {

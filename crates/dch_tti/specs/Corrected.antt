@@ -34,7 +34,8 @@ coded_bits_of coding plan joined r = coded_as coding (code_block plan joined r)
 -- of code block r so few copies are lost that it is told from others, where coded bit j of the TTI is sent `sent j`
 -- times: a wrong copy counts twice and a missing one once, and together they are less than the copies in which two
 -- blocks differ
-pub record IsCorrectable (coding : Coding) (plan : Plan) (sent : ℕ → ℕ) (votes : List Vote) (joined : List Bit) (r : ℕ) : Type 0 where
+pub record IsCorrectable (coding : Coding) (plan : Plan) (sent : ℕ → ℕ) (votes : List Vote) (joined : List Bit)
+    (r : ℕ) : Type 0 where
   pub count : ℕ
   pub apart : AreToldApart (coded_as coding) plan.size (filler_of plan r) (block_copies coding plan sent r) count
   pub few : disagreement (block_votes coding plan votes r) (coded_bits_of coding plan joined r)

@@ -21,12 +21,14 @@ use Rattle.dch_tti.specs.Corrected.{least_distance}
 use Rattle.dch_tti.specs.RxFrames.{RxFrames, frame_at}
 
 -- a radio frame arrives with as many cells, and of its TFCI bits four of 30 or 20 of 120 at most are wrong
-pub record IsLittleDamaged (sent_tfci : List Bit) (sent_cells : List Trit) (tfci : List Bit) (cells : List Trit) : Type 0 where
+pub record IsLittleDamaged (sent_tfci : List Bit) (sent_cells : List Trit) (tfci : List Bit)
+    (cells : List Trit) : Type 0 where
   pub sized : length tfci ≡ length sent_tfci
   pub close : distance tfci sent_tfci ≤ most_wrong (length sent_tfci)
   pub whole : length cells ≡ length sent_cells
 
--- how much the change of a cell counts: once where nothing arrives in place of a bit, and twice where the other bit does
+-- how much the change of a cell counts: once where nothing arrives in place of a bit, and twice where the other bit
+-- does
 abbrev pub changed : Trit → Trit → ℕ
 changed ZeroCell ZeroCell = 0
 changed ZeroCell Off = 1

@@ -12,7 +12,8 @@ use Rattle.dch_tti.specs.RxFrames.{Keeps, RxFrames, rx_frame_at}
 
 -- the radio frame of a CFN is taken: what is kept of it has the place of its CFN, the others stay, and it is the last
 -- one
-pub record IsPushed (planned : Planned) (dir : Dir) (cfn : ℕ) (frame : Option FrameView) (old new : RxFrames) : Type 0 where
+pub record IsPushed (planned : Planned) (dir : Dir) (cfn : ℕ) (frame : Option FrameView)
+    (old new : RxFrames) : Type 0 where
   pub kept : Keeps planned dir frame (rx_frame_at new.frames (cfn % 8))
   pub others : (k : ℕ) → k ≢ cfn % 8 → rx_frame_at new.frames k ≡ rx_frame_at old.frames k
   pub last : new.cfn ≡ cfn
@@ -23,7 +24,8 @@ pub record IsViewOf (frame : Frame) (view : FrameView) : Type 0 where
   pub cells : view.cells.now ≡ frame.cells
 
 -- the frame of a CFN is taken just as it was written in combination c of the list, while this was loaded of channel i
-pub record IsSentAndPushed (planned : Planned) (dir : Dir) (multiplexed : List Loaded → ℕ → ℕ → ℕ → Trit) (i cfn c : ℕ) (loaded : Loaded) (old new : RxFrames) : Type 0 where
+pub record IsSentAndPushed (planned : Planned) (dir : Dir) (multiplexed : List Loaded → ℕ → ℕ → ℕ → Trit) (i cfn c : ℕ)
+    (loaded : Loaded) (old new : RxFrames) : Type 0 where
   pub listed : c < length (side_of planned.config dir).combinations
   pub tti : List Loaded
   pub formats : AreFormats (side_of planned.config dir) c tti

@@ -24,12 +24,14 @@ abbrev pub votes_in : Side → ℕ → ℕ → List Vote → List Vote
 votes_in side i f votes = take (coded_in side i f) votes
 
 -- what is read of channel i
-pub record IsTtiRead (planned : Planned) (dir : Dir) (AreVotes : RxFrames → ℕ → ℕ → List Vote → Type 0) (reader : RxFrames) (i : ℕ) (held : Held) : Type 0 where
+pub record IsTtiRead (planned : Planned) (dir : Dir) (AreVotes : RxFrames → ℕ → ℕ → List Vote → Type 0)
+    (reader : RxFrames) (i : ℕ) (held : Held) : Type 0 where
   pub format : IsFormatOf (side_of planned.config dir) reader i held.format
   pub votes : List Vote
   pub long : length votes ≡ coded_in (side_of planned.config dir) i held.format
   pub are : AreVotes reader i held.format votes
-  pub blocks : IsReceived (channel_at (side_of planned.config dir) i) held.format (format_at (channel_at (side_of planned.config dir) i) held.format) votes held
+  pub blocks : IsReceived (channel_at (side_of planned.config dir) i) held.format
+      (format_at (channel_at (side_of planned.config dir) i) held.format) votes held
 
 -- the votes are those for the coded bits of these blocks, and of each code block so few copies are lost that it is told
 -- from others

@@ -12,7 +12,8 @@ use Rattle.dch_tti.specs.Loaded.{AreFormats, Loaded, frame_number, loaded_at}
 use Rattle.dch_tti.specs.RxFrames.{AreBack, RxFrame, RxFrames, frame_at}
 
 -- a frame is kept as it was written in combination c, as frame n of the TTI of channel i, of which this was loaded
-pub record IsSentFrame (planned : Planned) (dir : Dir) (multiplexed : List Loaded → ℕ → ℕ → ℕ → Trit) (i n c : ℕ) (loaded : Loaded) (kept : RxFrame) : Type 0 where
+pub record IsSentFrame (planned : Planned) (dir : Dir) (multiplexed : List Loaded → ℕ → ℕ → ℕ → Trit) (i n c : ℕ)
+    (loaded : Loaded) (kept : RxFrame) : Type 0 where
   pub tti : List Loaded
   pub cfn : ℕ
   pub frame : Frame

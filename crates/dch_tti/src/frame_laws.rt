@@ -41,7 +41,8 @@ pub fn pushed_tti_law()
         IsSide (side_of planned.config dir) → i < length (side_of planned.config dir).channels →
         first % (channel_at (side_of planned.config dir) i).frames ≡ 0 →
         AreSentAndPushed planned dir multiplexed i first sequence loaded readers →
-        AreSentFrames planned dir multiplexed (readers (channel_at (side_of planned.config dir) i).frames) i sequence loaded }
+        AreSentFrames planned dir multiplexed (readers (channel_at (side_of planned.config dir) i).frames)
+        i sequence loaded }
 {}
 
 /// A law: what is kept of a radio frame is one: the same TFCI bits and cells give the same combination, and where there

@@ -145,7 +145,8 @@ fn interleave(frames: usize, tti: &[Trit], out: &mut [Trit])
 
 /// Takes the memory for the TTIs of the channels of a direction. Nothing is loaded.
 pub fn tti_buffers(alloc: Global, accepted: &Accepted, dir: Dir) -> Result<Vec<TtiBuffer>, NoMemory>
-    ensures { IfOk result (λ tti_buffers. AreEmpty accepted.now dir (length (side_of accepted.now.config dir).channels) tti_buffers.items) }
+    ensures { IfOk result (λ tti_buffers. AreEmpty accepted.now dir (length (side_of accepted.now.config dir).channels)
+        tti_buffers.items) }
 {
     let mut tti_buffers = Vec::new(alloc);
     for i in 0..accepted.side(dir).channels.len() {

@@ -30,8 +30,8 @@ pub trait CountVotes {
     // The votes for the coded bits of a channel's TTI in a format.
     ghost counts: { Planned → RxFrames → ℕ → ℕ → List Vote → Type 0 };
 
-    // Blocks of a channel in a format were sent, and the radio frames of their TTI are kept in the combinations in which
-    // they were written, with so few cells changed that the blocks can be told.
+    // Blocks of a channel in a format were sent, and the radio frames of their TTI are kept in the combinations in
+    // which they were written, with so few cells changed that the blocks can be told.
     ghost damaged: { Planned → RxFrames → ℕ → ℕ → List Bit → Type 0 };
 
     // How much room there is to count, and how much of it TTIs of that size want.
@@ -63,11 +63,13 @@ pub trait CountVotes {
         requires format { IsFormatOf (side_of accepted.now.config dir) rx_frames.now channel format }
         requires scratch { size self.old ≡ size_for rx_frames.now.room }
         requires room { length out.old ≡ rx_frames.now.room.coding.bits }
-        ensures counted { counts accepted.now rx_frames.now channel format (votes_in (side_of accepted.now.config dir) channel format out.new) }
+        ensures counted { counts accepted.now rx_frames.now channel format
+            (votes_in (side_of accepted.now.config dir) channel format out.new) }
         ensures few { (j : ℕ) (v : Vote) → j < coded_in (side_of accepted.now.config dir) channel format →
             (slice_index_or out.new j v).zeros + (slice_index_or out.new j v).ones ≤ 460800 }
         ensures corrected { (blocks : List Bit) → damaged accepted.now rx_frames.now channel format blocks →
-            AreVotesOf (side_of accepted.now.config dir) channel format blocks (votes_in (side_of accepted.now.config dir) channel format out.new) }
+            AreVotesOf (side_of accepted.now.config dir) channel format blocks
+            (votes_in (side_of accepted.now.config dir) channel format out.new) }
         ensures kept { size self.new ≡ size self.old };
 
     /// The radio frames of such a TTI give the channel the format in which its blocks were sent.
@@ -135,10 +137,10 @@ impl<R: CountVotes + Drop> TtiReader<R> {
     }
 
     /// Reads the TTI of a channel that the last frame ends (TS 25.212 4.2.1 to 4.2.12, read backwards). A bad frame
-    /// leaves the blocks as they were. Just the blocks that were sent are read, all good, where each radio frame is kept
-    /// in its combination and few cells of each code block are changed: the wrong bits twice and the missing ones once
-    /// are less than the copies in which two blocks differ. With a copy of each coded bit five bits may be wrong at
-    /// rate 1/2, and eight at rate 1/3.
+    /// leaves the blocks as they were. Just the blocks that were sent are read, all good, where each radio frame is
+    /// kept in its combination and few cells of each code block are changed: the wrong bits twice and the missing ones
+    /// once are less than the copies in which two blocks differ. With a copy of each coded bit five bits may be wrong
+    /// at rate 1/2, and eight at rate 1/3.
     pub fn read(&mut self, accepted: &Accepted, channel: u8, out: &mut TtiBlocks) -> TtiOutcome
         requires opened { IsReaderOf accepted.now R.dir self.old }
         requires blocks { HoldsTtis (side_of accepted.now.config R.dir) out.old.room }

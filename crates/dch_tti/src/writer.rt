@@ -59,7 +59,8 @@ pub fn write_frame<T: MultiplexFrame>(
     requires frame { IsOpenedFor accepted.now.config T.dir out.old }
     requires combination { combination < length (side_of accepted.now.config T.dir).combinations }
     requires formats { AreFormats (side_of accepted.now.config T.dir) combination tti_buffers.now }
-    ensures written { IsFrameOf accepted.now T.dir (T.cell accepted.now tti_buffers.now cfn combination) combination out.new }
+    ensures written { IsFrameOf accepted.now T.dir (T.cell accepted.now tti_buffers.now cfn combination)
+        combination out.new }
     ensures frame { IsOpenedFor accepted.now.config T.dir out.new }
 {
     // A direction has at most 128 combinations.

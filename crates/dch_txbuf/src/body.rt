@@ -18,11 +18,13 @@ pub fn write_body(
 ) -> u8
     requires start { IsStart sdus.now.items start.now }
     requires there { IsThere cut.now (left_at start.now sdus.now.items) }
-    requires few { length (led_by lead) + length (octets_of cut.now (left_at start.now sdus.now.items)) + cut.now.pieces ≤ length out.old }
+    requires few { length (led_by lead) + length (octets_of cut.now (left_at start.now sdus.now.items)) +
+        cut.now.pieces ≤ length out.old }
     requires small { length out.old ≤ 126 }
     requires lead { All (λ m. m < 128) (led_by lead) }
     requires padded { cut.now.padded ≡ is_padded (length out.old) lead cut.now (left_at start.now sdus.now.items) }
-    ensures text { out.new ≡ body_text (indicators_with lead (length out.old) cut.now (left_at start.now sdus.now.items)) (octets_of cut.now (left_at start.now sdus.now.items)) (length out.old) }
+    ensures text { out.new ≡ body_text (indicators_with lead (length out.old) cut.now
+        (left_at start.now sdus.now.items)) (octets_of cut.now (left_at start.now sdus.now.items)) (length out.old) }
     ensures more { result ≡ more (indicators_with lead (length out.old) cut.now (left_at start.now sdus.now.items)) }
 {
     let ends = count_ends(cut, lead);
@@ -54,14 +56,16 @@ fn write_parts(
     requires start { IsStart sdus.now.items start.now }
     requires there { IsThere cut.now (left_at start.now sdus.now.items) }
     requires count { length indicators.old ≡
-        length (indicators_with lead (length indicators.old + length octets.old) cut.now (left_at start.now sdus.now.items)) }
+        length (indicators_with lead (length indicators.old + length octets.old) cut.now
+        (left_at start.now sdus.now.items)) }
     requires room { length (octets_of cut.now (left_at start.now sdus.now.items)) ≤ length octets.old }
     requires small { length indicators.old + length octets.old ≤ 126 }
     requires lead { All (λ m. m < 128) (led_by lead) }
     requires padded { cut.now.padded ≡
         is_padded (length indicators.old + length octets.old) lead cut.now (left_at start.now sdus.now.items) }
     ensures indicators { indicators.new ≡
-        indicator_octets (indicators_with lead (length indicators.old + length octets.old) cut.now (left_at start.now sdus.now.items)) }
+        indicator_octets (indicators_with lead (length indicators.old + length octets.old) cut.now
+        (left_at start.now sdus.now.items)) }
     ensures octets { octets.new ≡ padded (length octets.old) (octets_of cut.now (left_at start.now sdus.now.items)) }
 {
     let carried = write_pieces(sdus, start, cut, lead, indicators, octets);
@@ -83,7 +87,8 @@ fn write_pieces(
     requires start { IsStart sdus.now.items start.now }
     requires there { IsThere cut.now (left_at start.now sdus.now.items) }
     requires count { length indicators.old ≡
-        length (indicators_with lead (length indicators.old + length octets.old) cut.now (left_at start.now sdus.now.items)) }
+        length (indicators_with lead (length indicators.old + length octets.old) cut.now
+        (left_at start.now sdus.now.items)) }
     requires room { length (octets_of cut.now (left_at start.now sdus.now.items)) ≤ length octets.old }
     requires small { length indicators.old + length octets.old ≤ 126 }
     requires lead { All (λ m. m < 128) (led_by lead) }
@@ -92,7 +97,8 @@ fn write_pieces(
     ensures same { length octets.new ≡ length octets.old }
     ensures indicators { take (length (led_by lead) + cut.now.pieces) indicators.new ≡
         take (length (led_by lead) + cut.now.pieces)
-        (indicator_octets (indicators_with lead (length indicators.old + length octets.old) cut.now (left_at start.now sdus.now.items))) }
+        (indicator_octets (indicators_with lead (length indicators.old + length octets.old) cut.now
+        (left_at start.now sdus.now.items))) }
     ensures number { length indicators.new ≡ length indicators.old }
 {
     let first = start.sdu as usize;
@@ -144,7 +150,8 @@ fn copy_part(sdus: &SduBuffer, i: usize, from: usize, count: usize, at: usize, o
     requires there { i < length sdus.now.items }
     requires inside { from + count ≤ length (slice_index_or sdus.now.items i []) }
     requires room { at + count ≤ length octets.old }
-    ensures { octets.new ≡ take at octets.old ++ (take count (drop from (slice_index_or sdus.now.items i [])) ++ drop (at + count) octets.old) }
+    ensures { octets.new ≡ take at octets.old ++ (take count (drop from (slice_index_or sdus.now.items i [])) ++
+        drop (at + count) octets.old) }
 {
     sdus.copy(i, from, &mut octets[at..at + count]);
 }

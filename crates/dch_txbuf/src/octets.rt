@@ -49,7 +49,8 @@ fn copy_piece(row: &BlockRow, block: usize, at: usize, count: usize, done: usize
     requires piece { at + count ≤ length (slice_index_or row.now.items block []) }
     requires small { at + count ≤ 64 }
     requires room { done + count ≤ length out.old }
-    ensures { out.new ≡ take done out.old ++ (take count (drop at (slice_index_or row.now.items block [])) ++ drop (done + count) out.old) }
+    ensures { out.new ≡ take done out.old ++ (take count (drop at (slice_index_or row.now.items block [])) ++
+        drop (done + count) out.old) }
 {
     out[done..done + count].copy_from_slice(&row.at(block)[at..at + count]);
 }

@@ -62,9 +62,11 @@ pub fn write_um_taken(
     requires lead { All (λ m. m < 128) (led_by lead) }
     requires least { 1 ≤ length out.old }
     requires most { length out.old ≤ 126 }
-    requires few { length (led_by lead) + length (octets_of cut.now (left_at start.now sdus.now.items)) + cut.now.pieces ≤ length out.old - 1 }
+    requires few { length (led_by lead) + length (octets_of cut.now (left_at start.now sdus.now.items)) +
+        cut.now.pieces ≤ length out.old - 1 }
     requires padded { cut.now.padded ≡ is_padded (length out.old - 1) lead cut.now (left_at start.now sdus.now.items) }
-    ensures { out.new ≡ um_pdu number (indicators_with lead (length out.old - 1) cut.now (left_at start.now sdus.now.items)) (octets_of cut.now (left_at start.now sdus.now.items)) (length out.old) }
+    ensures { out.new ≡ um_pdu number (indicators_with lead (length out.old - 1) cut.now
+        (left_at start.now sdus.now.items)) (octets_of cut.now (left_at start.now sdus.now.items)) (length out.old) }
 {
     let (front, body) = out.split_at_mut(1);
     let more = write_body(sdus, start, cut, lead, body);

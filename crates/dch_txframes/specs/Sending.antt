@@ -35,7 +35,8 @@ qe_sent config Up = config.qe
 qe_sent config Down = 0
 
 -- the frame of a set's blocks is written and told
-pub record SendsFrame {S : Type 0} (shows : S → Line → S → Type 0) (planned : Planned) (dir : Dir) (set cfn : ℕ) (old new : IubTxBuffer) (before after : S) : Type 0 where
+pub record SendsFrame {S : Type 0} (shows : S → Line → S → Type 0) (planned : Planned) (dir : Dir) (set cfn : ℕ)
+    (old new : IubTxBuffer) (before after : S) : Type 0 where
   pub opened : IsTxBufferOf planned dir set new
   pub held : new.held ≡ old.held
   pub octets : List ℕ

@@ -118,7 +118,8 @@ fn write_frame(
 ) -> usize
     requires blocks { IsSetOf accepted.now.config dir set blocks.now }
     requires room { IsLongest accepted.now.config dir set (length out.old) }
-    ensures written { IsWrittenForm accepted.now.config dir set (take result out.new) cfn (qe_sent accepted.now.config dir) blocks.now }
+    ensures written { IsWrittenForm accepted.now.config dir set (take result out.new) cfn
+        (qe_sent accepted.now.config dir) blocks.now }
     ensures octets { AreOctets (take result out.new) }
     ensures fits { result ≤ length out.old }
 {

@@ -59,7 +59,8 @@ pub record AreReadTo (planned : Planned) (rx_frames : RxFrames) (count : ℕ) (t
   pub later : (i : ℕ) → count ≤ i → (tti_at ttis i).outcome ≡ None
 
 -- layer 2 took what was read of a channel
-pub record Gives {S : Type 0} (shows : S → Line → S → Type 0) (config : Config) (i : ℕ) (reading : Reading) (old new : LayerRunning) (before after : S) : Type 0 where
+pub record Gives {S : Type 0} (shows : S → Line → S → Type 0) (config : Config) (i : ℕ) (reading : Reading)
+    (old new : LayerRunning) (before after : S) : Type 0 where
   pub ends : IsSameEnd old new
   pub stands : (layer : Layer) → StandsFor config layer old
       → StandsFor config (reads config Down i reading layer).layer new
@@ -67,20 +68,23 @@ pub record Gives {S : Type 0} (shows : S → Line → S → Type 0) (config : Co
       → Told shows before (reads config Down i reading layer).lines after
 
 -- the first channels were read, and layer 2 took what was read
-pub record AreRead {S : Type 0} (shows : S → Line → S → Type 0) (planned : Planned) (rx_frames : RxFrames) (count : ℕ) (ttis : List RxTti) (old new : LayerRunning) (before after : S) : Type 0 where
+pub record AreRead {S : Type 0} (shows : S → Line → S → Type 0) (planned : Planned) (rx_frames : RxFrames) (count : ℕ)
+    (ttis : List RxTti) (old new : LayerRunning) (before after : S) : Type 0 where
   pub opened : AreTtisOf planned ttis
   pub readings : (i : ℕ) → i < count → IsReading planned rx_frames i (reading_of (tti_at ttis i))
   pub later : (i : ℕ) → count ≤ i → (tti_at ttis i).outcome ≡ None
   pub read : HasRead shows planned.config Down (readings_of ttis) count old new before after
 
 -- the downlink radio frame of a CFN is taken, and the channels whose TTI ends with it are read
-pub record Receives {S : Type 0} (shows : S → Line → S → Type 0) (planned : Planned) (cfn : ℕ) (old new : DownlinkReceiver) (layer new_layer : LayerRunning) (before after : S) : Type 0 where
+pub record Receives {S : Type 0} (shows : S → Line → S → Type 0) (planned : Planned) (cfn : ℕ)
+    (old new : DownlinkReceiver) (layer new_layer : LayerRunning) (before after : S) : Type 0 where
   pub heard : DownlinkReceiver
   pub completes : Completes planned cfn old heard
   pub rx_frames : new.rx_frames ≡ heard.rx_frames
   pub pushed : new.pushed ≡ heard.pushed
   pub opened : IsReceiverOf planned new
-  pub reads : AreRead shows planned new.rx_frames (length planned.config.downlink.side.channels) new.ttis layer new_layer before after
+  pub reads : AreRead shows planned new.rx_frames (length planned.config.downlink.side.channels)
+      new.ttis layer new_layer before after
 
 -- the first channels whose TTI starts at a CFN are loaded with what layer 2 gave to them, and no other ones
 pub record AreLoadedTo (planned : Planned) (cfn count : ℕ) (layer : LayerRunning) (old new : List Loaded) : Type 0 where
@@ -92,7 +96,8 @@ pub record AreLoadedTo (planned : Planned) (cfn count : ℕ) (layer : LayerRunni
   pub later : (i : ℕ) → count ≤ i → loaded_at new i ≡ loaded_at old i
 
 -- the radio frame of a CFN was written in a combination of what is loaded, and is sent and told
-pub record Sends {S : Type 0} (shows : S → Line → S → Type 0) (planned : Planned) (cfn combination : ℕ) (old new : UplinkTransmitter) (before after : S) : Type 0 where
+pub record Sends {S : Type 0} (shows : S → Line → S → Type 0) (planned : Planned) (cfn combination : ℕ)
+    (old new : UplinkTransmitter) (before after : S) : Type 0 where
   pub opened : IsTransmitterOf planned new
   pub running : new.running ≡ old.running
   pub sent : new.radio.sent ≡ true
@@ -101,7 +106,8 @@ pub record Sends {S : Type 0} (shows : S → Line → S → Type 0) (planned : P
   pub shown : shows before (Phy Up new.radio.frame.tfci new.radio.frame.cells) after
 
 -- the TTIs that start are loaded, and the radio frame of the CFN is sent in the combination that runs
-pub record Transmits {S : Type 0} (shows : S → Line → S → Type 0) (planned : Planned) (cfn : ℕ) (layer : LayerRunning) (old new : UplinkTransmitter) (before after : S) : Type 0 where
+pub record Transmits {S : Type 0} (shows : S → Line → S → Type 0) (planned : Planned) (cfn : ℕ) (layer : LayerRunning)
+    (old new : UplinkTransmitter) (before after : S) : Type 0 where
   pub loaded : UplinkTransmitter
   pub loads : AreLoadedTo planned cfn (length planned.config.uplink.side.channels) layer old.running loaded.running
   pub sends : Sends shows planned cfn layer.running loaded new before after

@@ -47,7 +47,8 @@ pub record IsRadioFrame (planned : Planned) (cfn : ℕ) (layer : Layer) (radio :
 
 -- layer 2 after the timers ticked and the channels were read in order
 abbrev pub has_read : Planned → (ℕ → Reading) → Layer → Outcome
-has_read planned readings layer = reads_below planned.config Down readings (length planned.config.downlink.side.channels) (ticks planned.config layer)
+has_read planned readings layer = reads_below planned.config Down readings
+    (length planned.config.downlink.side.channels) (ticks planned.config layer)
 
 -- the timers tick, the radio frame that came is taken, the channels whose TTI ends are read, TTIs start, the uplink
 -- radio frame is sent, and the CFN goes on
@@ -66,7 +67,8 @@ pub record IsTick (planned : Planned) (old new : State) (output : Output) : Type
   pub no_iub : (s : ℕ) → s < 8 → output.iub s ≡ None
 
 -- a unit is offered
-pub record IsOffer (planned : Planned) (old : State) (b : ℕ) (octets : List ℕ) (bits : List Bit) (new : State) (output : Output) : Type 0 where
+pub record IsOffer (planned : Planned) (old : State) (b : ℕ) (octets : List ℕ) (bits : List Bit) (new : State)
+    (output : Output) : Type 0 where
   pub state : new ≡ with_layer old (offers planned.config Up b octets bits old.layer).layer
   pub reported : output ≡ says (offers planned.config Up b octets bits old.layer).lines
 

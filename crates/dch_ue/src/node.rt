@@ -122,7 +122,8 @@ impl Ue {
         ensures history { (began before : Planned) (first : ℕ) (events : List Event) (lines : List Line) →
             IsActiveBefore accepted.now event.entry before self.old →
             RepresentsHistory began before first events lines self.old →
-            ExtendsHistory began accepted.now first events lines (event_of accepted.now event.entry) self.new (Tells U.shows user.old user.new) }
+            ExtendsHistory began accepted.now first events lines (event_of accepted.now event.entry) self.new
+            (Tells U.shows user.old user.new) }
         ensures next { KeepsNext accepted.now event.entry self.old self.new }
         ensures few { TellsFew U.shows (step_bytes accepted.now.config) user.old user.new }
     {
@@ -140,11 +141,13 @@ impl Ue {
         ensures opened { IsNodeOf accepted.now self.new }
         ensures step { (before : Planned) (state : State) → IsActiveBefore accepted.now event.entry before self.old →
             Represents before state self.old →
-            Stepped accepted.now state (event_of accepted.now event.entry) self.new (AddsLines report.old.text report.new.text) }
+            Stepped accepted.now state (event_of accepted.now event.entry) self.new
+            (AddsLines report.old.text report.new.text) }
         ensures history { (began before : Planned) (first : ℕ) (events : List Event) (lines : List Line) →
             IsActiveBefore accepted.now event.entry before self.old →
             RepresentsHistory began before first events lines self.old →
-            ExtendsHistory began accepted.now first events lines (event_of accepted.now event.entry) self.new (AddsLines report.old.text report.new.text) }
+            ExtendsHistory began accepted.now first events lines (event_of accepted.now event.entry) self.new
+            (AddsLines report.old.text report.new.text) }
         ensures next { KeepsNext accepted.now event.entry self.old self.new }
         ensures few { length report.new.text ≤ length report.old.text + step_bytes accepted.now.config }
         ensures most { report.new.most ≡ report.old.most }
@@ -250,7 +253,8 @@ impl Ue {
         ensures opened { IsNodeOf accepted.now self.new }
         ensures next { self.new.next ≡ self.old.next }
         ensures step { (state : State) → IsAt accepted.now state self.old →
-            Stepped accepted.now state (OfferedUnit bearer octets.now bits.now) self.new (Tells U.shows user.old user.new) }
+            Stepped accepted.now state (OfferedUnit bearer octets.now bits.now) self.new
+            (Tells U.shows user.old user.new) }
         ensures limited { TellsSuch U.shows (AreLimitedLines accepted.now.config) user.old user.new }
     {
         let answer = self.layer.offer(bearer, octets, bits);

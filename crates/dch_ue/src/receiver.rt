@@ -73,7 +73,8 @@ impl RxTti {
         requires tti { IsTti accepted.now.config Down channel (reading_of self.now) }
         requires layer { IsLayerOf accepted.now.config layer.old }
         requires receives { layer.old.into ≡ Down }
-        ensures { Gives U.shows accepted.now.config channel (reading_of self.now) layer.old layer.new user.old user.new }
+        ensures { Gives U.shows accepted.now.config channel (reading_of self.now)
+            layer.old layer.new user.old user.new }
     {
         match self.outcome {
             None => {}
@@ -103,9 +104,11 @@ impl DownlinkReceiver {
     /// Takes all memory that receiving wants. No frame is there, and nothing is read.
     pub fn open(alloc: Global, accepted: &Accepted) -> Result<DownlinkReceiver, NoMemory>
         ensures opened { IfOk result (IsReceiverOf accepted.now) }
-        ensures missing { IfOk result (λ receiver. AreMissing (most_cells accepted.now.config Down) 8 receiver.rx_frames.frames) }
+        ensures missing { IfOk result (λ receiver. AreMissing (most_cells accepted.now.config Down)
+            8 receiver.rx_frames.frames) }
         ensures none { IfOk result (λ receiver. receiver.pushed ≡ false) }
-        ensures quiet { IfOk result (λ receiver. AreNewTtis accepted.now (length accepted.now.config.downlink.side.channels) receiver.ttis) }
+        ensures quiet { IfOk result (λ receiver. AreNewTtis accepted.now
+            (length accepted.now.config.downlink.side.channels) receiver.ttis) }
     {
         Ok(DownlinkReceiver {
             reader: DlReader::open(alloc, accepted)?,
@@ -182,7 +185,8 @@ impl DownlinkReceiver {
 
 /// Takes the memory for the TTIs of all channels.
 fn rx_ttis(alloc: Global, accepted: &Accepted) -> Result<Vec<RxTti>, NoMemory>
-    ensures { IfOk result (λ ttis. AreNewTtis accepted.now (length accepted.now.config.downlink.side.channels) ttis.items) }
+    ensures { IfOk result (λ ttis. AreNewTtis accepted.now (length accepted.now.config.downlink.side.channels)
+        ttis.items) }
 {
     let channels = accepted.side(Dir::Down).channels.len();
     let mut ttis = Vec::new(alloc);

@@ -10,4 +10,5 @@ use Rattle.dch_ulphy.specs.Frames.{multiplexed}
 pub gives_its_format : GivesItsFormat Up WasDamaged
 gives_its_format planned reader i f blocks is inside n below =
     ap (format_in planned.config.uplink.side i) (is.combinations n below)
-    ∙ sent_formats planned Up (multiplexed planned) is.sent i f is.was.sequence is.was.sent.loaded is.was.sent.frames is.was.sent.from.format inside n below
+    ∙ sent_formats planned Up (multiplexed planned) is.sent i f is.was.sequence is.was.sent.loaded is.was.sent.frames
+    is.was.sent.from.format inside n below

@@ -19,10 +19,12 @@ IsSentFrame planned i n c loaded kept = IsSentFrameBy planned Up (multiplexed pl
 
 -- and so are all frames of the TTI, each in its combination of a sequence
 abbrev pub AreSentFrames : Planned → RxFrames → ℕ → List ℕ → Loaded → Type 0
-AreSentFrames planned reader i sequence loaded = AreSentFramesBy planned Up (multiplexed planned) reader i sequence loaded
+AreSentFrames planned reader i sequence loaded = AreSentFramesBy planned Up (multiplexed planned)
+    reader i sequence loaded
 
 -- blocks in format f were loaded for channel i, and all frames of the TTI are kept as they were written meanwhile
-pub record IsSentTti (planned : Planned) (reader : RxFrames) (i f : ℕ) (sequence : List ℕ) (blocks : List Bit) : Type 0 where
+pub record IsSentTti (planned : Planned) (reader : RxFrames) (i f : ℕ) (sequence : List ℕ)
+    (blocks : List Bit) : Type 0 where
   pub loaded : Loaded
   pub from : IsLoaded planned i f blocks loaded
   pub whole : length blocks ≡ bits_of (format_at (channel_at planned.config.uplink.side i) f)
@@ -38,4 +40,5 @@ pub record WasSent (planned : Planned) (reader : RxFrames) (i f : ℕ) (blocks :
 -- the frames of a TTI of channel i are taken one after another from its first CFN on, just as they were written in a
 -- sequence of combinations, while this stayed loaded of the channel; reader n is what is kept before frame n
 abbrev pub AreSentAndPushed : Planned → ℕ → ℕ → List ℕ → Loaded → (ℕ → RxFrames) → Type 0
-AreSentAndPushed planned i first sequence loaded readers = AreSentAndPushedBy planned Up (multiplexed planned) i first sequence loaded readers
+AreSentAndPushed planned i first sequence loaded readers =
+    AreSentAndPushedBy planned Up (multiplexed planned) i first sequence loaded readers
