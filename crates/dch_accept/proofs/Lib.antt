@@ -2,6 +2,8 @@ pub mod Causes
 pub mod IdleFormats
 pub mod MorePlans
 pub mod Overwritten
+pub mod Parts
 pub mod Rooms
 pub mod Sizes
+pub mod TtiPlaces
 pub mod Unpacked

@@ -1,8 +1,7 @@
 -- The frames of the legs become one frame alone.
-use Rattle.std.proofs.Common.{◌≡◌, ◌+◌, ◌*◌, ◌/◌, ◌%◌, ◌<◌, ◌≤◌, ◌∙◌, ℕ, zero, suc, List, Option, Bool, false, length, take, drop, get_or, arith, ap, sym, subst, inl, inr}
+use Rattle.std.proofs.Common.{◌≡◌, ◌*◌, ◌<◌, ◌≤◌, ◌∙◌, ℕ, List, Option, Bool, false, length, take, drop, arith, ap, sym, subst, inl, inr}
 use Rattle.std.proofs.lemmas.Bool.{cases_lt}
-use Rattle.std.proofs.lemmas.List.{ext_get_or, get_or-drop, get_or-take, same_lists}
-use Rattle.std.proofs.lemmas.Nat.{div-add-mod', div_below, mod_below}
+use Rattle.std.proofs.lemmas.List.{ext_get_or}
 use Rattle.dch_bits.specs.declared.bit.Bit.{Bit}
 use Rattle.dch_types.specs.declared.channel.Dir.TheVariants.{Up}
 use Rattle.dch_types.specs.declared.channel.Trch.{Trch}
@@ -12,6 +11,7 @@ use Rattle.dch_accept.specs.Blocks.{Held, bits_of, block_at}
 use Rattle.dch_accept.specs.HeldSets.{HasFormat, held_at}
 use Rattle.dch_iub.specs.Forms.{IsWrittenForm}
 use Rattle.dch_iub.proofs.OneWriting.{written_one}
+use Rattle.dch_accept.proofs.Parts.{same_parts}
 use Rattle.dch_combine.specs.Combined.{HasGoodBlock, IsBest, IsCombinedBlock, IsCombinedFrame, IsCombinedTti, IsLeading, IsLowest}
 use Rattle.dch_combine.specs.Legs.{LegFrame, blocks_in}
 use Rattle.dch_combine.specs.Steps.{IsSameBlock}
@@ -40,28 +40,6 @@ one_block legs i lead b held other format (inl x) (inl y) =
 one_block legs i lead b held other format (inl x) (inr y) = absurd (y.none x.leg (subst (λ f. HasGoodBlock (blocks_in (legs x.leg) i) f b) (sym format) x.lowest.holds))
 one_block legs i lead b held other format (inr x) (inl y) = absurd (x.none y.leg (subst (λ f. HasGoodBlock (blocks_in (legs y.leg) i) f b) format y.lowest.holds))
 one_block legs i lead b held other format (inr x) (inr y) = record { bits = y.bits ∙ sym x.bits; good = y.bad ∙ sym x.bad }
-
-part_at : (xs : List Bit) (size r t : ℕ) (d : Bit) → t < size → get_or (take size (drop (r * size) xs)) t d ≡ get_or xs (r * size + t) d
-part_at xs size r t d inside = get_or-take size (drop (r * size) xs) t d inside ∙ get_or-drop (r * size) xs t d
-
-some_size : (n size k : ℕ) → k < n * size → 0 < size
-some_size n zero k inside = absurd (omega arith)
-some_size n (suc size) k inside = omega arith
-
--- bits whose parts of one size are the same
-same_parts : (xs ys : List Bit) (n size : ℕ) → length xs ≡ n * size → length ys ≡ n * size
-    → ((r : ℕ) → r < n → take size (drop (r * size) xs) ≡ take size (drop (r * size) ys)) → xs ≡ ys
-same_parts xs ys n size long longer same = same_lists xs ys (omega (arith, long, longer)) (λ k d inside.
-    let within : k < n * size = omega (arith, long) in
-    let some : 0 < size = some_size n size k within in
-    let row : k / size < n = div_below k size n some within in
-    let small : k % size < size = mod_below k size some in
-    let place : k / size * size + k % size ≡ k = div-add-mod' k size in
-    ap (λ j. get_or xs j d) (sym place)
-    ∙ sym (part_at xs size (k / size) (k % size) d small)
-    ∙ ap (λ (zs : List Bit). get_or zs (k % size) d) (same (k / size) row)
-    ∙ part_at ys size (k / size) (k % size) d small
-    ∙ ap (λ j. get_or ys j d) place)
 
 -- the combined blocks of a channel are told, but for the room that they have
 one_tti : (channel : Trch) (legs : ℕ → Option LegFrame) (i : ℕ) (held other : Held) → HasFormat channel held → HasFormat channel other → IsCombinedTti legs i held → IsCombinedTti legs i other → other ≡ record held { room = other.room }

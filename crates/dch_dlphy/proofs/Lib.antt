@@ -6,5 +6,4 @@ pub mod Filled
 pub mod Fits
 pub mod One
 pub mod OneFrame
-pub mod Rooms
 pub mod Sent

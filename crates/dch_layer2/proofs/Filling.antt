@@ -1,17 +1,15 @@
 -- A bearer fills its share of a channel's blocks.
-use Rattle.std.proofs.Common.{◌≡◌, ◌<◌, ◌≤◌, ◌+◌, ◌*◌, ◌++◌, ◌∙◌, ℕ, zero, suc, List, [], ◌∷◌, cond, length, take, drop, arith, refl, sym, ap, subst, append_assoc, length-append, length-drop}
+use Rattle.std.proofs.Common.{◌≡◌, ◌<◌, ◌≤◌, ◌+◌, ◌*◌, ◌++◌, ◌∙◌, ℕ, zero, suc, List, [], ◌∷◌, cond, length, arith, refl, sym, ap, subst, append_assoc}
 use Rattle.std.specs.Prelude.{◌==◌, min}
 use Rattle.std.proofs.lemmas.Bool.Decides.{nat_tests}
-use Rattle.std.proofs.lemmas.List.{append-nil, drop-append-le, length-take, length-take-le, take-append-le}
-use Rattle.std.proofs.Math.Nat.{mul-le-mul_right, mul-zero}
-use Rattle.std.proofs.Math.Seq.{drop-append_seam, take-length}
+use Rattle.std.proofs.lemmas.List.{append-nil}
+use Rattle.std.proofs.Math.Nat.{mul-le-mul_right}
 use Rattle.dch_bits.specs.declared.bit.Bit.{Bit}
 use Rattle.dch_types.specs.declared.channel.Dir.{Dir}
 use Rattle.dch_types.specs.declared.config.Config.{Config}
 use Rattle.dch_accept.specs.Blocks.{Held, block_at}
 use Rattle.dch_accept.specs.BlockLending.{with_block}
-use Rattle.dch_accept.specs.Frames.{overwritten}
-use Rattle.dch_accept.proofs.Overwritten.{part_shown}
+use Rattle.dch_accept.proofs.Parts.{over, within}
 use Rattle.dch_mac.specs.declared.head.Head.{Head}
 use Rattle.dch_layer2.specs.Bearings.{Bearing, head_of}
 use Rattle.dch_layer2.specs.BearerStanding.{Built, CanBuild, Represents as StandsFor}
@@ -21,52 +19,6 @@ use Rattle.dch_layer2.proofs.Serving.{HasMore}
 use Rattle.dch_layer2.proofs.Offers.{gives_has, gives_join, gives_one}
 use Rattle.dch_layer2.proofs.Sharing.{same_shape, shape_on}
 use Rattle.dch_layer2.proofs.Sums.{either, number_same}
-
--- a part of a list is written over
-record IsOver (from size : ℕ) (xs ys ws : List Bit) : Type 0 where
-  pub long : length ys ≡ length xs
-  pub there : take size (drop from ys) ≡ ws
-  pub before : (k : ℕ) → k + size ≤ from → take size (drop k ys) ≡ take size (drop k xs)
-
-over : (from size : ℕ) (xs ws : List Bit) → length ws ≡ size → from + size ≤ length xs → IsOver from size xs (overwritten xs (take from xs ++ ws)) ws
-over from size xs ws long inside = record {
-  long = length-take-le (length xs) all (subst (λ n. length xs ≤ n) (sym whole) (omega arith));
-  there = sym (part_shown from size (length xs) all inside)
-      ∙ (ap (take size) (drop-append-le from (take from xs ++ ws) rest (omega (arith, wide))
-      ∙ ap (λ ys. ys ++ rest) (subst (λ n. drop n (take from xs ++ ws) ≡ ws) first (drop-append_seam (take from xs) ws)))
-      ∙ (take-append-le size ws rest (omega (arith, long)) ∙ (ap (λ n. take n ws) (sym long) ∙ take-length ws)));
-  before = λ k room. sym (part_shown k size (length xs) all (omega (arith, room, inside)))
-      ∙ (ap (take size) (drop-append-le k (take from xs ++ ws) rest (omega (arith, wide, room)))
-      ∙ (take-append-le size (drop k (take from xs ++ ws)) rest (omega (arith, length-drop k (take from xs ++ ws), wide, room))
-      ∙ (ap (take size) (drop-append-le k (take from xs) ws (omega (arith, first, room)))
-      ∙ (take-append-le size (drop k (take from xs)) ws (omega (arith, length-drop k (take from xs), first, room))
-      ∙ sym (part_shown k size from xs room)))));
-}
-  where
-    rest : List Bit
-    rest = drop (length (take from xs ++ ws)) xs
-
-    all : List Bit
-    all = (take from xs ++ ws) ++ drop (length (take from xs ++ ws)) xs
-
-    first : length (take from xs) ≡ from
-    first = length-take-le from xs (omega (arith, inside))
-
-    wide : length (take from xs ++ ws) ≡ from + size
-    wide = omega (arith, length-append (take from xs) ws, first, long)
-
-    whole : length ((take from xs ++ ws) ++ drop (length (take from xs ++ ws)) xs) ≡ length xs
-    whole = omega (arith, length-append (take from xs ++ ws) (drop (length (take from xs ++ ws)) xs), length-drop (length (take from xs ++ ws)) xs, wide, inside)
-
--- a block that has its size is there
-within : (k size : ℕ) (xs : List Bit) → length (take size (drop (k * size) xs)) ≡ size → k * size + size ≤ length xs
-within k zero xs e = omega (arith, mul-zero k)
-within k (suc n) xs e =
-    let room : suc n ≤ length (drop (k * suc n) xs) = least (suc n) (length (drop (k * suc n) xs)) (sym (length-take (suc n) (drop (k * suc n) xs)) ∙ e) in
-    omega (arith, room, length-drop (k * suc n) xs)
-  where
-    least : (a b : ℕ) → min a b ≡ a → a ≤ b
-    least a b e = grind (arith, nat_tests, e)
 
 -- block k is written
 record IsWritten (k : ℕ) (old new : Held) (block : List Bit) : Type 0 where

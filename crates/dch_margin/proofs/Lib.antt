@@ -11,5 +11,4 @@ pub mod Parts
 pub mod PlaceLists
 pub mod Plain
 pub mod Plans
-pub mod Rooms
 pub mod Visits

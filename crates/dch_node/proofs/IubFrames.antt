@@ -1,8 +1,6 @@
 -- An Iub frame is taken in one way.
-use Rattle.std.proofs.Common.{◌≡◌, ◌+◌, ◌*◌, ◌/◌, ◌%◌, ◌<◌, ◌∙◌, ℕ, zero, suc, List, length, take, drop, get_or, arith, ap, ap₂, sym, refl, inl, inr}
+use Rattle.std.proofs.Common.{◌≡◌, ◌+◌, ◌*◌, ◌<◌, ◌∙◌, ℕ, List, length, take, drop, arith, ap, ap₂, sym, refl, inl, inr}
 use Rattle.std.specs.Prelude.{◌⊎◌, Bool, slice_index}
-use Rattle.std.proofs.lemmas.List.{same_lists, get_or-take, get_or-drop}
-use Rattle.std.proofs.lemmas.Nat.{div-add-mod', div_below, mod_below}
 use Rattle.dch_bits.specs.declared.bit.Bit.{Bit}
 use Rattle.dch_types.specs.declared.channel.Dir.{Dir}
 use Rattle.dch_types.specs.declared.channel.Format.{Format as BlockFormat}
@@ -12,6 +10,7 @@ use Rattle.dch_types.specs.declared.config.Config.{Config}
 use Rattle.dch_types.specs.Parts.{channel_at, format_at, side_of}
 use Rattle.dch_accept.specs.Blocks.{Held, bits_of}
 use Rattle.dch_accept.specs.HeldSets.{HasFormat, HeldSet, held_at}
+use Rattle.dch_accept.proofs.Parts.{same_parts}
 use Rattle.dch_iub.specs.Answers.{AreRead, IsBadPayload, IsControl, IsCut, IsFault, IsOtherLength, IsSound, IsSpoiled, IsUnknown, IsWhole, number_in}
 use Rattle.dch_iub.specs.Back.{IsReadBack, IsSameTti}
 use Rattle.dch_iub.specs.Forms.{IsReadForm}
@@ -99,28 +98,6 @@ refusal_small Control = omega arith
 refusal_small (Format f) = omega arith
 refusal_small Length = omega arith
 refusal_small PayloadCheck = omega arith
-
-part_at : (xs : List Bit) (size r t : ℕ) (d : Bit) → t < size → get_or (take size (drop (r * size) xs)) t d ≡ get_or xs (r * size + t) d
-part_at xs size r t d inside = get_or-take size (drop (r * size) xs) t d inside ∙ get_or-drop (r * size) xs t d
-
-some_size : (n size k : ℕ) → k < n * size → 0 < size
-some_size n zero k inside = absurd (omega arith)
-some_size n (suc size) k inside = omega arith
-
--- bits whose parts of one size are the same
-same_parts : (xs ys : List Bit) (n size : ℕ) → length xs ≡ n * size → length ys ≡ n * size
-    → ((r : ℕ) → r < n → take size (drop (r * size) xs) ≡ take size (drop (r * size) ys)) → xs ≡ ys
-same_parts xs ys n size long longer same = same_lists xs ys (omega (arith, long, longer)) (λ k d inside.
-    let within : k < n * size = omega (arith, long) in
-    let some : 0 < size = some_size n size k within in
-    let row : k / size < n = div_below k size n some within in
-    let small : k % size < size = mod_below k size some in
-    let place : k / size * size + k % size ≡ k = div-add-mod' k size in
-    ap (λ j. get_or xs j d) (sym place)
-    ∙ sym (part_at xs size (k / size) (k % size) d small)
-    ∙ ap (λ (zs : List Bit). get_or zs (k % size) d) (same (k / size) row)
-    ∙ part_at ys size (k / size) (k % size) d small
-    ∙ ap (λ j. get_or ys j d) place)
 
 -- blocks of one format that are the same one by one have the same bits
 pub same_bits : (channel : Trch) (old new : Held) → HasFormat channel old → HasFormat channel new → IsSameTti old new → new.bits ≡ old.bits

@@ -26,7 +26,8 @@ use Rattle.dch_linkcmd.specs.LinkSoft.{SoftState, framed, over, uplink_of}
 use Rattle.dch_linkcmd.specs.SoftStages.{AtLeg, AtStage, UeGoes, UeReceives}
 use Rattle.dch_linkcmd.specs.soft_stage.Stage.{Stage}
 use Rattle.dch_linkcmd.specs.soft_stage.Stage.TheVariants.{RncTick, IubDown, RadioDown, UeTick, RadioUp, IubUp, Combine}
-use Rattle.dch_runlaw.proofs.ClearKept.{KeepsLayer, below_keeps, start_format}
+use Rattle.dch_ue.proofs.Lasting.{GivesTheSame, reads_below-on}
+use Rattle.dch_runlaw.proofs.ClearKept.{start_format}
 use Rattle.dch_runlaw.proofs.SizedRuns.{UeStands, ue_stands}
 use Rattle.dch_runlaw.proofs.SizedStarts.{opened_stands}
 use Rattle.dch_runlaw.specs.SoftRuns.{Between, HappensBetween, Move, Next, Passes, Point, Runs, behind, opened_point}
@@ -86,7 +87,7 @@ pub record Agree (planned : Planned) (legs k : ℕ) (phase : Phase) (soft : Soft
   pub formats : InRunning planned soft.ue.state
   pub air : AirIn planned phase soft
 
-formats_stay : (planned : Planned) (old new : UeState) → new.cfn ≡ old.cfn → KeepsLayer old.layer new.layer → InRunning planned old → InRunning planned new
+formats_stay : (planned : Planned) (old new : UeState) → new.cfn ≡ old.cfn → GivesTheSame old.layer new.layer → InRunning planned old → InRunning planned new
 formats_stay planned old new cfn layer before j inside off =
     ap (λ (g : Given). g.format) (layer.given j) ∙ before j inside (ap (starts (frames_of planned j)) (sym cfn) ∙ off) ∙ ap (λ c. format_number (up_side planned) c j) (sym layer.running)
 
@@ -194,8 +195,8 @@ ticks_in planned legs k old new lines good passes a = record {
     tick : IsUeTick planned mid.ue.state new.ue.state new.ue.last
     tick = subst (λ (p : Planned). IsUeTick p mid.ue.state new.ue.state new.ue.last) (ap (λ (s : UeState). s.planned) kept.0 ∙ a.ue.planned_is) (ue_step mid new UeTicks goes)
 
-    keeps : KeepsLayer (ticks planned.config mid.ue.state.layer) (has_read planned new.ue.state.readings mid.ue.state.layer).layer
-    keeps = below_keeps planned.config Down new.ue.state.readings (length planned.config.downlink.side.channels) (ticks planned.config mid.ue.state.layer)
+    keeps : GivesTheSame (ticks planned.config mid.ue.state.layer) (has_read planned new.ue.state.readings mid.ue.state.layer).layer
+    keeps = reads_below-on planned.config Down new.ue.state.readings (length planned.config.downlink.side.channels) (ticks planned.config mid.ue.state.layer)
 
 -- then all formats are those of the combination that runs
 pub tick_formats : (planned : Planned) (legs k : ℕ) (old new : SoftState) → Ticks planned old new → Agree planned legs k Before old → (j : ℕ) → j < length (up_side planned).channels → (new.ue.state.layer.given j).format ≡ format_number (up_side planned) new.ue.state.layer.running j

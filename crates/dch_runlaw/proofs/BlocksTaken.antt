@@ -1,6 +1,6 @@
 -- What the blocks of a channel do to an acknowledged bearer, as a history of its pair.
 use Rattle.std.proofs.Common.{◌≡◌, ◌+◌, ◌-◌, ℕ, List, [], ◌∷◌, ◌++◌, Bool, true, false, cond, Result, Ok, Err, length, map, drop, not, refl, sym, ap, ap₂, ◌∙◌, subst, append_assoc}
-use Rattle.std.specs.Prelude.{◌==◌, ◌||◌, filter, nat_lt}
+use Rattle.std.specs.Prelude.{◌==◌, filter, nat_lt}
 use Rattle.std.proofs.lemmas.Bool.{cond_both}
 use Rattle.std.proofs.lemmas.List.{append-nil}
 use Rattle.std.proofs.lemmas.List.Elements.{filter-append}
@@ -8,29 +8,21 @@ use Rattle.dch_bits.specs.declared.bit.Bit.{Bit}
 use Rattle.dch_types.specs.declared.channel.Dir.{Dir}
 use Rattle.dch_types.specs.declared.config.Config.{Config}
 use Rattle.dch_rlcpdu.specs.declared.am.AmView.{AmView}
-use Rattle.dch_rlcpdu.specs.declared.am.AmView.TheVariants.{Payload as Data, Status, Reset, ResetAck}
-use Rattle.dch_rlcpdu.specs.declared.um.UmView.{UmView}
 use Rattle.dch_rlcpdu.specs.declared.handed.PduError.{PduError}
 use Rattle.dch_rlcpdu.specs.Am.{am_reading}
-use Rattle.dch_rlcpdu.specs.Um.{um_reading}
 use Rattle.dch_mac.specs.declared.answer.Demux.{Demux}
 use Rattle.dch_mac.specs.declared.answer.Demux.TheVariants.{To, Reserved, NoBearer, Nobody}
 use Rattle.dch_mac.specs.Field.{field_bits}
 use Rattle.dch_mac.specs.Receivers.{receiver}
-use Rattle.dch_am.specs.Receiver.{Receiver, taken}
-use Rattle.dch_am.specs.Moves.{control_answer}
-use Rattle.dch_am.specs.Acknowledging.{status_answer}
+use Rattle.dch_am.specs.Receiver.{Receiver}
 use Rattle.dch_am.specs.Rules.{Rules}
-use Rattle.dch_am.specs.Sender.{Sender}
-use Rattle.dch_rlcum.specs.Receiving.{Receiving, after_pdu as after_um}
-use Rattle.dch_layer2.specs.Hearing.{receiver_of, hears, hears_am, hears_um, new_units, rides_outside}
-use Rattle.dch_pair.specs.Answers.{is_unknown}
-use Rattle.dch_amlaw.specs.Pair.{Arrive, At, Block, End, Event, IsSafe, Near, Pair, after, happens, is_beyond, is_outside_answer}
+use Rattle.dch_layer2.specs.Hearing.{receiver_of, hears, new_units}
+use Rattle.dch_amlaw.specs.Pair.{Arrive, At, Block, End, Event, IsSafe, Near, Pair, after, happens}
 use Rattle.dch_amlaw.specs.Lossless.{NoneLost, is_loss}
-use Rattle.dch_layer2.specs.Bearings.{Acknowledged, Bearing, Sends, Transparent, Unacknowledged, ct_of, pdu_octets, rules_in}
+use Rattle.dch_layer2.specs.Bearings.{Acknowledged, Bearing, ct_of, pdu_octets, rules_in}
 use Rattle.dch_layer2.specs.Layers.{Came, Layer, Outcome, goes, takes, takes_one}
-use Rattle.dch_node.specs.Lines.{Line, Outside}
-use Rattle.dch_layer2.specs.UnitLines.{line_if, unit_line, unit_lines}
+use Rattle.dch_node.specs.Lines.{Line}
+use Rattle.dch_layer2.specs.UnitLines.{unit_line, unit_lines}
 use Rattle.dch_layer2.specs.Octets.{octets_of}
 use Rattle.dch_am.specs.Entities.{pdu_of}
 use Rattle.dch_pair.proofs.Units.{Grown, grown_by_pdu}
@@ -42,6 +34,7 @@ use Rattle.dch_runlaw.specs.Worlds.{IsFront, IsSublist}
 use Rattle.dch_runlaw.proofs.Catching.{AlwaysSafe, Caught, Wires, catches, pair_of}
 use Rattle.dch_runlaw.proofs.Names.{number_same, other_number, receiver_has, receiver_skips, same_number}
 use Rattle.dch_runlaw.proofs.Sublists.{behind, behind-append, either, front_behind, front_first, past, sub_behind, sub_front}
+use Rattle.dch_runlaw.proofs.TextTakes.{Every, hears_all}
 
 -- the lines of a bearer among more
 pub lines-append : (b : ℕ) (xs ys : List Line) → lines_of b (xs ++ ys) ≡ lines_of b xs ++ lines_of b ys
@@ -62,39 +55,14 @@ pub own_lines : (b : ℕ) (dir : Dir) (us : List (List ℕ)) → lines_of b (uni
 own_lines b dir [] = refl
 own_lines b dir (u ∷ us) = rw (unit_of b b dir u, same_number b b refl) (ap (λ l. unit_line dir b u ∷ l) (own_lines b dir us))
 
-other_lines : (b c : ℕ) (dir : Dir) (us : List (List ℕ)) → (c == b) ≡ false → lines_of b (unit_lines dir c us) ≡ []
-other_lines b c dir [] e = refl
-other_lines b c dir (u ∷ us) e = rw (unit_of b c dir u, e) (other_lines b c dir us e)
-
-other_outside : (b c : ℕ) (dir : Dir) (o : Bool) → (c == b) ≡ false → lines_of b (line_if o (Outside dir c)) ≡ []
-other_outside b c dir true e = rw e refl
-other_outside b c dir false e = refl
-
-none_on : (b : ℕ) (xs ys : List Line) → lines_of b xs ≡ [] → lines_of b ys ≡ [] → lines_of b (xs ++ ys) ≡ []
-none_on b xs ys e f = lines-append b xs ys ∙ rw (e, f) refl
-
 -- what comes for another bearer has no line of this one
-around : (b c : ℕ) (dir : Dir) (o q : Bool) (us : List (List ℕ)) → (c == b) ≡ false → lines_of b (line_if o (Outside dir c) ++ unit_lines dir c us ++ line_if q (Outside dir c)) ≡ []
-around b c dir o q us e = none_on b (line_if o (Outside dir c) ++ unit_lines dir c us) (line_if q (Outside dir c)) (none_on b (line_if o (Outside dir c)) (unit_lines dir c us) (other_outside b c dir o e) (other_lines b c dir us e)) (other_outside b c dir q e)
-
-before : (b c : ℕ) (dir : Dir) (o : Bool) (us : List (List ℕ)) → (c == b) ≡ false → lines_of b (line_if o (Outside dir c) ++ unit_lines dir c us) ≡ []
-before b c dir o us e = none_on b (line_if o (Outside dir c)) (unit_lines dir c us) (other_outside b c dir o e) (other_lines b c dir us e)
-
-other_am : (rules : Rules) (dir : Dir) (b c : ℕ) (view : Result AmView PduError) (s : Sender) (r : Receiver) → (c == b) ≡ false → lines_of b (hears_am rules dir c view s r).lines ≡ []
-other_am rules dir b c (Ok (Data sn poll x p)) s r e = around b c dir (is_outside_answer (taken rules r sn)) (rides_outside rules p s) (new_units r (receiver_of rules (Ok (Data sn poll x p)) r)) e
-other_am rules dir b c (Ok (Status fields)) s r e = before b c dir (is_unknown (status_answer rules s fields) || is_beyond (control_answer rules r fields)) (new_units r (receiver_of rules (Ok (Status fields)) r)) e
-other_am rules dir b c (Ok (Reset rsn hfni)) s r e = refl
-other_am rules dir b c (Ok (ResetAck rsn hfni)) s r e = refl
-other_am rules dir b c (Err x) s r e = rw e refl
-
-other_um : (dir : Dir) (b c : ℕ) (view : Result UmView PduError) (s : Sends) (r : Receiving) → (c == b) ≡ false → lines_of b (hears_um dir c view s r).lines ≡ []
-other_um dir b c (Ok view) s r e = other_lines b c dir (after_um view r).waiting e
-other_um dir b c (Err x) s r e = rw e refl
+none_of : (b : ℕ) (xs : List Line) → Every (λ line. is_of b line ≡ false) xs → lines_of b xs ≡ []
+none_of b [] h = refl
+none_of b (x ∷ xs) h = let e : is_of b x ≡ false = h.0 in rw e (none_of b xs h.1)
 
 pub other_hears : (config : Config) (dir : Dir) (b c : ℕ) (bits : List Bit) (bearing : Bearing) → (c == b) ≡ false → lines_of b (hears config dir c bits bearing).lines ≡ []
-other_hears config dir b c bits (Transparent w us) e = rw e refl
-other_hears config dir b c bits (Unacknowledged s r) e = other_um dir b c (um_reading (octets_of bits)) s r e
-other_hears config dir b c bits (Acknowledged s r) e = other_am (rules_in config c) dir b c (am_reading (octets_of bits)) s r e
+other_hears config dir b c bits bearing e = none_of b (hears config dir c bits bearing).lines
+    (hears_all (λ line. is_of b line ≡ false) config dir c (record { pdu_bad = λ n. e; outside = e; overlong = e; got = λ octets. e; got_bits = λ bits. e }) bits bearing)
 
 -- a PDU takes no unit back, and the new units are those behind the old ones
 view_grown : (rules : Rules) (view : Result AmView PduError) (r : Receiver) → Grown r.reading.units (receiver_of rules view r).reading.units

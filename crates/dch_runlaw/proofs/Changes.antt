@@ -22,7 +22,7 @@ use Rattle.dch_linkcmd.specs.LinkSoft.{SoftState, given, over, uplink_of, with_f
 use Rattle.dch_linkcmd.specs.SoftStages.{AtLeg, AtStage, GivesFrame, MayTake, RncGoes, TakesFrame, UeGoes, WhereOver}
 use Rattle.dch_linkcmd.specs.soft_stage.Stage.{Stage}
 use Rattle.dch_linkcmd.specs.soft_stage.Stage.TheVariants.{RncTick, IubDown, RadioDown, UeTick, RadioUp, IubUp, Combine}
-use Rattle.dch_runlaw.proofs.ClearKept.{KeepsLayer}
+use Rattle.dch_ue.proofs.Lasting.{GivesTheSame}
 use Rattle.dch_runlaw.proofs.NodesEvents.{rnc_stays}
 
 -- the steps of the nodes, and their lines
@@ -158,7 +158,7 @@ pub record Stays (k : ℕ) (old new : SoftState) : Type 0 where
   pub rnc_active : new.rnc.state.planned ≡ old.rnc.state.planned
   pub ue_active : new.ue.state.planned ≡ old.ue.state.planned
   pub ue_cfn : new.ue.state.cfn ≡ old.ue.state.cfn
-  pub ue_layer : KeepsLayer old.ue.state.layer new.ue.state.layer
+  pub ue_layer : GivesTheSame old.ue.state.layer new.ue.state.layer
   pub node_b_active : (new.legs k).node_b.state.planned ≡ (old.legs k).node_b.state.planned
   pub node_b_cfn : (new.legs k).node_b.state.cfn ≡ (old.legs k).node_b.state.cfn
   pub node_b_frames : (new.legs k).node_b.state.frames ≡ (old.legs k).node_b.state.frames
@@ -238,7 +238,7 @@ pub radio_down_stays : (k leg : ℕ) (old new : SoftState) (lines : List Line) �
 radio_down_stays k leg old new lines at = leg_stays k leg at.leg old new (leg_change leg at.leg old new at.is) (transmit_keeps (old.legs leg) at.leg lines at.does)
 
 -- what happens between two radio frames
-ue_stays : (k : ℕ) (event : UeEvent) (old new : SoftState) → UeGoes old event new → new.ue.state.planned ≡ old.ue.state.planned → new.ue.state.cfn ≡ old.ue.state.cfn → KeepsLayer old.ue.state.layer new.ue.state.layer → Stays k old new
+ue_stays : (k : ℕ) (event : UeEvent) (old new : SoftState) → UeGoes old event new → new.ue.state.planned ≡ old.ue.state.planned → new.ue.state.cfn ≡ old.ue.state.cfn → GivesTheSame old.ue.state.layer new.ue.state.layer → Stays k old new
 ue_stays k event old new goes active cfn layer = record {
   count = ap (λ (s : SoftState). s.count) goes.is;
   cfn = ap (λ (s : SoftState). s.cfn) goes.is;

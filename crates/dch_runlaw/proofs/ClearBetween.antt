@@ -25,7 +25,7 @@ use Rattle.dch_runlaw.proofs.Keeping.{but_rnc, but_ue, rnc_step, ue_step}
 use Rattle.dch_runlaw.specs.ClearSound.{AreSound, is_sound}
 use Rattle.dch_runlaw.proofs.ClearDown.{DownHalf, RunsGiven}
 use Rattle.dch_runlaw.proofs.ClearDownFrame.{DownStand, down_side, frames_on}
-use Rattle.dch_runlaw.proofs.ClearKept.{KeepsLayer}
+use Rattle.dch_ue.proofs.Lasting.{GivesTheSame}
 use Rattle.dch_runlaw.proofs.ClearUp.{UpHalf}
 use Rattle.dch_runlaw.proofs.ClearUpFrame.{UpStand, up_side}
 
@@ -37,8 +37,8 @@ pub record Same (old new : LinkState) : Type 0 where
   pub node_b : new.node_b.state ≡ old.node_b.state
   pub ue_cfn : new.ue.state.cfn ≡ old.ue.state.cfn
   pub ue_frames : new.ue.state.frames ≡ old.ue.state.frames
-  pub rnc_layer : KeepsLayer old.rnc.state.layer new.rnc.state.layer
-  pub ue_layer : KeepsLayer old.ue.state.layer new.ue.state.layer
+  pub rnc_layer : GivesTheSame old.rnc.state.layer new.rnc.state.layer
+  pub ue_layer : GivesTheSame old.ue.state.layer new.ue.state.layer
 
 -- so the downlink stands as it stood, and the uplink
 pub stay_down : (planned : Planned) (old new : LinkState) → Same old new → DownStand planned old → DownStand planned new
@@ -74,13 +74,13 @@ record UeStays (old new : UeState) (lines : List Line) : Type 0 where
   active : new.planned ≡ old.planned
   cfn : new.cfn ≡ old.cfn
   frames : new.frames ≡ old.frames
-  layer : KeepsLayer old.layer new.layer
+  layer : GivesTheSame old.layer new.layer
   sound : AreSound lines
 
 record RncStays (old new : RncState) (lines : List Line) : Type 0 where
   active : new.planned ≡ old.planned
   cfn : new.cfn ≡ old.cfn
-  layer : KeepsLayer old.layer new.layer
+  layer : GivesTheSame old.layer new.layer
   sound : AreSound lines
 
 answer_sound : (dir : Dir) (b : ℕ) (answer : Offer) → is_sound (line_of_answer dir b answer) ≡ true

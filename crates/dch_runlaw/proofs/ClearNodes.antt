@@ -12,7 +12,7 @@ use Rattle.dch_linkcmd.specs.RncState.{State as RncState, set_readings}
 use Rattle.dch_linkcmd.specs.RncSteps.{IsArrival, IsTick as IsRncTick}
 use Rattle.dch_linkcmd.specs.LinkLink.{LinkState}
 use Rattle.dch_runlaw.specs.Frames.{IsFrame, MayBeTaken, Taken}
-use Rattle.dch_runlaw.proofs.ClearKept.{KeepsLayer, below_keeps}
+use Rattle.dch_ue.proofs.Lasting.{GivesTheSame, reads_below-on}
 
 -- a configuration is active at all three
 pub record HavePlanned (planned : Planned) (link : LinkState) : Type 0 where
@@ -31,11 +31,11 @@ ue_tick planned old new lines f has = subst (λ (p : Planned). IsUeTick p f.kept
 pub record Keeps (old new : RncState) : Type 0 where
   pub active : new.planned ≡ old.planned
   pub same_cfn : new.cfn ≡ old.cfn
-  pub layer : KeepsLayer old.layer new.layer
+  pub layer : GivesTheSame old.layer new.layer
 
 keeps_step : (planned : Planned) (old new : RncState) (s : ℕ) (octets : List ℕ) (output : Output) → IsArrival planned old s octets new output → Keeps old new
 keeps_step planned old new s octets output (inl read) =
-    let below = below_keeps planned.config Up (set_readings planned.config.uplink.side s read.held) (length planned.config.uplink.side.channels) old.layer in
+    let below = reads_below-on planned.config Up (set_readings planned.config.uplink.side s read.held) (length planned.config.uplink.side.channels) old.layer in
     record {
       active = ap (λ (x : RncState). x.planned) read.state;
       same_cfn = ap (λ (x : RncState). x.cfn) read.state;

@@ -1,88 +1,37 @@
 -- Clean readings give no line of trouble of the radio side.
 use Rattle.std.proofs.Common.{◌≡◌, ◌<◌, ◌+◌, ◌∙◌, ℕ, zero, suc, List, [], ◌∷◌, ◌++◌, Bool, true, false, length, get_or, arith, refl, ap, inl, inr}
-use Rattle.std.specs.Prelude.{◌||◌, IsTrue, Result, Ok, Err, nat_lt}
+use Rattle.std.specs.Prelude.{IsTrue}
 use Rattle.dch_bits.specs.declared.bit.Bit.{Bit}
 use Rattle.dch_types.specs.declared.channel.Dir.{Dir}
 use Rattle.dch_types.specs.declared.config.Config.{Config}
 use Rattle.dch_accept.specs.Blocks.{Held}
-use Rattle.dch_mac.specs.declared.answer.Demux.{Demux}
-use Rattle.dch_mac.specs.declared.answer.Demux.TheVariants.{To, Reserved, NoBearer, Nobody}
-use Rattle.dch_mac.specs.Receivers.{receiver}
-use Rattle.dch_rlcpdu.specs.declared.handed.PduError.{PduError}
-use Rattle.dch_rlcpdu.specs.declared.um.UmView.{UmView}
-use Rattle.dch_rlcpdu.specs.declared.am.AmView.{AmView}
-use Rattle.dch_rlcpdu.specs.declared.am.AmView.TheVariants.{Payload, Status, Reset, ResetAck}
-use Rattle.dch_rlcpdu.specs.Am.{am_reading}
-use Rattle.dch_rlcpdu.specs.Um.{um_reading}
-use Rattle.dch_rlcum.specs.Receiving.{Receiving, after_pdu as after_um}
-use Rattle.dch_am.specs.Receiver.{Receiver, taken}
-use Rattle.dch_am.specs.Rules.{Rules}
-use Rattle.dch_am.specs.Sender.{Sender}
-use Rattle.dch_am.specs.Acknowledging.{status_answer}
-use Rattle.dch_am.specs.Moves.{control_answer}
-use Rattle.dch_amlaw.specs.Pair.{is_beyond, is_outside_answer}
-use Rattle.dch_pair.specs.Answers.{is_unknown}
-use Rattle.dch_node.specs.Lines.{Line, Outside}
-use Rattle.dch_linkcmd.proofs.Steady.{tells}
-use Rattle.dch_layer2.specs.Bearings.{Bearing, Transparent, Unacknowledged, Acknowledged, Sends, rules_in}
-use Rattle.dch_layer2.specs.Hearing.{hears, hears_um, lines_by, new_units, receiver_of, rides_outside}
-use Rattle.dch_layer2.specs.Layers.{Came, Layer, goes, takes, takes_good, takes_one}
-use Rattle.dch_layer2.specs.Octets.{octets_of}
-use Rattle.dch_layer2.specs.UnitLines.{line_if, unit_line, unit_lines}
+use Rattle.dch_node.specs.Lines.{Line}
+use Rattle.dch_layer2.specs.Layers.{Came, Layer, takes, takes_good, takes_one}
 use Rattle.dch_layer2.specs.Coming.{came_at, came_below, came_of}
 use Rattle.dch_layer2.specs.Reading.{Bad, Nothing, Read, Reading, reads, reads_below}
 use Rattle.dch_linkcmd.specs.Checks.{AreChecked, IsSublist}
 use Rattle.dch_runlaw.specs.ClearSound.{AreSound, is_sound}
 use Rattle.dch_runlaw.proofs.ClearClean.{IsClean}
+use Rattle.dch_runlaw.proofs.TextTakes.{Covers, Every, good_all}
 
 pub sound-append : (a b : List Line) → AreSound a → AreSound b → AreSound (a ++ b)
 sound-append [] b first second = second
 sound-append (x ∷ a) b first second = (first.0, sound-append a b first.1 second)
 
-sound_unit : (dir : Dir) (b : ℕ) (unit : List ℕ) → is_sound (unit_line dir b unit) ≡ true
-sound_unit dir b unit = elim (tells (nat_lt 1500 (length unit))) [
-  | inl long ↦ rw long.0 refl
-  | inr short ↦ rw short.0 refl
-]
+sound_covers : (dir : Dir) (count : ℕ) → Covers (λ line. is_sound line ≡ true) dir count
+sound_covers dir count = record {
+  bearer = λ b l. record { pdu_bad = λ n. refl; outside = refl; overlong = refl; got = λ octets. refl; got_bits = λ bits. refl };
+  reserved = λ i. refl;
+  no_bearer = λ i ct. refl;
+  nobody = λ i. refl;
+}
 
-sound_units : (dir : Dir) (b : ℕ) (units : List (List ℕ)) → AreSound (unit_lines dir b units)
-sound_units dir b [] = tt
-sound_units dir b (unit ∷ units) = (sound_unit dir b unit, sound_units dir b units)
-
-sound_if : (x : Bool) (line : Line) → is_sound line ≡ true → AreSound (line_if x line)
-sound_if true line is = (is, tt)
-sound_if false line is = tt
-
-um_sound : (dir : Dir) (b : ℕ) (view : Result UmView PduError) (s : Sends) (r : Receiving) → AreSound (hears_um dir b view s r).lines
-um_sound dir b (Ok view) s r = sound_units dir b (after_um view r).waiting
-um_sound dir b (Err e) s r = (refl, tt)
-
-am_sound : (rules : Rules) (dir : Dir) (b : ℕ) (view : Result AmView PduError) (s : Sender) (r : Receiver) (units : List (List ℕ)) → AreSound (lines_by rules dir b view s r units)
-am_sound rules dir b (Ok (Payload sn poll c piggyback)) s r units =
-    sound-append (line_if (is_outside_answer (taken rules r sn)) (Outside dir b) ++ unit_lines dir b units) (line_if (rides_outside rules piggyback s) (Outside dir b))
-    (sound-append (line_if (is_outside_answer (taken rules r sn)) (Outside dir b)) (unit_lines dir b units) (sound_if (is_outside_answer (taken rules r sn)) (Outside dir b) refl) (sound_units dir b units))
-    (sound_if (rides_outside rules piggyback s) (Outside dir b) refl)
-am_sound rules dir b (Ok (Status fields)) s r units =
-    sound-append (line_if (is_unknown (status_answer rules s fields) || is_beyond (control_answer rules r fields)) (Outside dir b)) (unit_lines dir b units)
-    (sound_if (is_unknown (status_answer rules s fields) || is_beyond (control_answer rules r fields)) (Outside dir b) refl) (sound_units dir b units)
-am_sound rules dir b (Ok (Reset rsn hfni)) s r units = tt
-am_sound rules dir b (Ok (ResetAck rsn hfni)) s r units = tt
-am_sound rules dir b (Err e) s r units = (refl, tt)
-
-hears_sound : (config : Config) (dir : Dir) (b : ℕ) (bits : List Bit) (bearing : Bearing) → AreSound (hears config dir b bits bearing).lines
-hears_sound config dir b bits (Transparent w accepted) = (refl, tt)
-hears_sound config dir b bits (Unacknowledged s r) = um_sound dir b (um_reading (octets_of bits)) s r
-hears_sound config dir b bits (Acknowledged s r) = am_sound (rules_in config b) dir b (am_reading (octets_of bits)) s r (new_units r (receiver_of (rules_in config b) (am_reading (octets_of bits)) r))
-
-goes_sound : (config : Config) (into : Dir) (i : ℕ) (bits : List Bit) (to : Demux) (layer : Layer) → AreSound (goes config into i bits to layer).lines
-goes_sound config into i bits (To b skip) layer = hears_sound config into b _ (layer.bearings b)
-goes_sound config into i bits Reserved layer = (refl, tt)
-goes_sound config into i bits (NoBearer ct) layer = (refl, tt)
-goes_sound config into i bits Nobody layer = (refl, tt)
+all_sound : (xs : List Line) → Every (λ line. is_sound line ≡ true) xs → AreSound xs
+all_sound [] h = tt
+all_sound (x ∷ xs) h = (h.0, all_sound xs h.1)
 
 good_sound : (config : Config) (into : Dir) (i : ℕ) (bits : List Bit) (layer : Layer) → AreSound (takes_good config into i bits layer).lines
-good_sound config into i [] layer = tt
-good_sound config into i (bit ∷ bits) layer = goes_sound config into i (bit ∷ bits) (receiver config into i (bit ∷ bits)) layer
+good_sound config into i bits layer = all_sound (takes_good config into i bits layer).lines (good_all (λ line. is_sound line ≡ true) config into (sound_covers into (length config.bearers)) i bits layer)
 
 one_sound : (config : Config) (into : Dir) (i k : ℕ) (bits : List Bit) (good : Bool) (layer : Layer) → good ≡ true → AreSound (takes_one config into i k bits good layer).lines
 one_sound config into i k bits true layer is = good_sound config into i bits layer

@@ -30,7 +30,7 @@ use Rattle.dch_runlaw.specs.SentRead.{IsReadAsSent}
 use Rattle.dch_runlaw.proofs.UplinkSent.{uplink_sent}
 use Rattle.dch_runlaw.specs.Sized.{AreSized}
 use Rattle.dch_runlaw.proofs.ClearBlocks.{arrive_good}
-use Rattle.dch_runlaw.proofs.ClearSame.{same_bits}
+use Rattle.dch_node.proofs.IubFrames.{same_bits}
 use Rattle.dch_runlaw.proofs.ClearSent.{IsSentRadio, all_sent}
 use Rattle.dch_runlaw.proofs.ClearTtis.{Half, by_four}
 

@@ -30,7 +30,8 @@ use Rattle.dch_runlaw.specs.Clear.{FrameClear}
 use Rattle.dch_runlaw.specs.Sized.{AreAllSized, AreAllWhole}
 use Rattle.dch_runlaw.specs.ClearSound.{AreSound}
 use Rattle.dch_runlaw.proofs.ClearDownFrame.{DownStand, Fed, departure, fed_all, frames_on, reception}
-use Rattle.dch_runlaw.proofs.ClearKept.{KeepsLayer, below_keeps, start_format, start_same}
+use Rattle.dch_ue.proofs.Lasting.{GivesTheSame, reads_below-on}
+use Rattle.dch_runlaw.proofs.ClearKept.{start_format, start_same}
 use Rattle.dch_runlaw.proofs.ClearNodes.{Keeps, keeps_all, keeps_frame, rnc_tick, ue_tick}
 use Rattle.dch_runlaw.proofs.ClearSent.{IsSentRadio, heard_as}
 use Rattle.dch_runlaw.proofs.ClearTtis.{by_four, half_more, half_next, over_or_on, some_frames, starts_off}
@@ -135,8 +136,8 @@ up_frame planned old new lines f good clear sized wholes d s = record {
     mid : Layer
     mid = (has_read planned new.ue.state.readings f.kept.layer).layer
 
-    mid_keeps : KeepsLayer (ticks planned.config f.kept.layer) mid
-    mid_keeps = below_keeps planned.config Down new.ue.state.readings (length planned.config.downlink.side.channels) (ticks planned.config f.kept.layer)
+    mid_keeps : GivesTheSame (ticks planned.config f.kept.layer) mid
+    mid_keeps = reads_below-on planned.config Down new.ue.state.readings (length planned.config.downlink.side.channels) (ticks planned.config f.kept.layer)
 
     mid_given : (i : ℕ) → mid.given i ≡ old.ue.state.layer.given i
     mid_given i = mid_keeps.given i ∙ ap (λ (x : UeState). x.layer.given i) f.keeps.0

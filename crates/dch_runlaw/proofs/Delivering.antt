@@ -35,7 +35,7 @@ use Rattle.dch_linkcmd.specs.SoftStages.{AtLeg, AtStage, MayTake, TakesFrame, Wh
 use Rattle.dch_linkcmd.specs.soft_stage.Stage.{Stage}
 use Rattle.dch_linkcmd.specs.soft_stage.Stage.TheVariants.{RncTick, IubDown, RadioDown, UeTick, RadioUp, IubUp, Combine}
 use Rattle.dch_runlaw.specs.Intervals.{AreGood}
-use Rattle.dch_runlaw.proofs.ClearSame.{same_bits}
+use Rattle.dch_node.proofs.IubFrames.{same_bits}
 use Rattle.dch_runlaw.proofs.ClearSent.{heard_as}
 use Rattle.dch_runlaw.proofs.ClearTtis.{over_or_on}
 use Rattle.dch_runlaw.proofs.IntervalSets.{AreReadable, SetUp, set_up}

@@ -1,39 +1,18 @@
 -- Lines on units and PDUs have the direction from which their end receives.
-use Rattle.std.proofs.Common.{◌≡◌, ◌+◌, ℕ, List, [], ◌∷◌, ◌++◌, Bool, true, false, Result, Ok, Err, length, drop, refl, ap}
-use Rattle.std.specs.Prelude.{◌&&◌, ◌||◌, ◌==◌, nat_lt}
-use Rattle.std.proofs.lemmas.Bool.{cond_both}
-use Rattle.dch_bits.specs.declared.bit.Bit.{Bit}
+use Rattle.std.proofs.Common.{◌≡◌, ℕ, List, [], ◌∷◌, ◌++◌, Bool, true, false, length, refl, ap}
+use Rattle.std.specs.Prelude.{◌&&◌, ◌==◌}
 use Rattle.dch_bits.specs.declared.offer.Offer.{Offer}
 use Rattle.dch_bits.specs.declared.offer.Offer.TheVariants.{Accepted, Full as NoRoom, WrongSize}
 use Rattle.dch_types.specs.declared.channel.Dir.{Dir}
 use Rattle.dch_types.specs.declared.channel.Dir.TheVariants.{Up, Down}
 use Rattle.dch_types.specs.declared.config.Config.{Config}
-use Rattle.dch_rlcpdu.specs.declared.am.AmView.{AmView}
-use Rattle.dch_rlcpdu.specs.declared.am.AmView.TheVariants.{Payload as Data, Status, Reset, ResetAck}
-use Rattle.dch_rlcpdu.specs.declared.um.UmView.{UmView}
-use Rattle.dch_rlcpdu.specs.declared.handed.PduError.{PduError}
-use Rattle.dch_rlcpdu.specs.Am.{am_reading}
-use Rattle.dch_rlcpdu.specs.Um.{um_reading}
-use Rattle.dch_mac.specs.declared.answer.Demux.{Demux}
-use Rattle.dch_mac.specs.declared.answer.Demux.TheVariants.{To, Reserved as ReservedField, NoBearer as Unknown, Nobody as NoOne}
-use Rattle.dch_mac.specs.Receivers.{receiver}
-use Rattle.dch_am.specs.Receiver.{Receiver, taken}
-use Rattle.dch_am.specs.Moves.{control_answer}
-use Rattle.dch_am.specs.Acknowledging.{status_answer}
-use Rattle.dch_am.specs.Rules.{Rules}
-use Rattle.dch_am.specs.Sender.{Sender}
-use Rattle.dch_rlcum.specs.Receiving.{Receiving, after_pdu as after_um}
-use Rattle.dch_layer2.specs.Hearing.{receiver_of, hears, hears_am, hears_um, new_units, rides_outside}
-use Rattle.dch_amlaw.specs.Pair.{is_beyond, is_outside_answer}
-use Rattle.dch_pair.specs.Answers.{is_unknown}
-use Rattle.dch_layer2.specs.Bearings.{Acknowledged, Bearing, Sends, Transparent, Unacknowledged, line_of_answer, rules_in}
-use Rattle.dch_layer2.specs.Layers.{Came, Layer, goes, takes, takes_one}
+use Rattle.dch_layer2.specs.Bearings.{line_of_answer}
+use Rattle.dch_layer2.specs.Layers.{Came, Layer, takes}
 use Rattle.dch_node.specs.Lines.{Line, Took, Full, Wrong, Bad, Reserved, NoBearer, Nobody, PduBad, Outside, Overlong, Got, GotBits, Iub, IubBad, Phy, PhyNone, BadTti, Differs}
-use Rattle.dch_layer2.specs.UnitLines.{line_if, unit_line, unit_lines}
-use Rattle.dch_layer2.specs.Octets.{octets_of}
 use Rattle.dch_runlaw.specs.Directions.{is_on, lines_on, same_dir}
 use Rattle.dch_runlaw.specs.Lines.{is_of, lines_of}
 use Rattle.dch_runlaw.proofs.Sublists.{either}
+use Rattle.dch_runlaw.proofs.TextTakes.{Covers, Every, every_append, takes_all}
 
 -- a line on a unit or PDU has this direction
 abbrev pub goes_in : Dir → Line → Bool
@@ -57,64 +36,25 @@ goes_in dir (BadTti d i n) = true
 goes_in dir (Differs d i) = true
 
 abbrev pub AllIn : Dir → List Line → Type 0
-AllIn dir [] = Unit {0}
-AllIn dir (x ∷ xs) = (goes_in dir x ≡ true) × AllIn dir xs
+AllIn dir lines = Every (λ line. goes_in dir line ≡ true) lines
 
 pub in_append : (dir : Dir) (xs ys : List Line) → AllIn dir xs → AllIn dir ys → AllIn dir (xs ++ ys)
-in_append dir [] ys h k = k
-in_append dir (x ∷ xs) ys h k = (h.0, in_append dir xs ys h.1 k)
+in_append dir xs ys h k = every_append (λ line. goes_in dir line ≡ true) xs ys h k
 
 same_self : (dir : Dir) → same_dir dir dir ≡ true
 same_self Up = refl
 same_self Down = refl
 
-unit_goes : (dir : Dir) (b : ℕ) (u : List ℕ) → goes_in dir (unit_line dir b u) ≡ true
-unit_goes dir b u = cond_both (nat_lt 1500 (length u)) _ _ (λ l. goes_in dir l ≡ true) (λ _. same_self dir) (λ _. same_self dir)
-
-units_go : (dir : Dir) (b : ℕ) (us : List (List ℕ)) → AllIn dir (unit_lines dir b us)
-units_go dir b [] = tt
-units_go dir b (u ∷ us) = (unit_goes dir b u, units_go dir b us)
-
-outside_goes : (dir : Dir) (b : ℕ) (o : Bool) → AllIn dir (line_if o (Outside dir b))
-outside_goes dir b true = (same_self dir, tt)
-outside_goes dir b false = tt
-
-around : (dir : Dir) (b : ℕ) (o q : Bool) (us : List (List ℕ)) → AllIn dir (line_if o (Outside dir b) ++ unit_lines dir b us ++ line_if q (Outside dir b))
-around dir b o q us = in_append dir (line_if o (Outside dir b) ++ unit_lines dir b us) (line_if q (Outside dir b)) (in_append dir (line_if o (Outside dir b)) (unit_lines dir b us) (outside_goes dir b o) (units_go dir b us)) (outside_goes dir b q)
-
-before : (dir : Dir) (b : ℕ) (o : Bool) (us : List (List ℕ)) → AllIn dir (line_if o (Outside dir b) ++ unit_lines dir b us)
-before dir b o us = in_append dir (line_if o (Outside dir b)) (unit_lines dir b us) (outside_goes dir b o) (units_go dir b us)
-
-am_goes : (rules : Rules) (dir : Dir) (b : ℕ) (view : Result AmView PduError) (s : Sender) (r : Receiver) → AllIn dir (hears_am rules dir b view s r).lines
-am_goes rules dir b (Ok (Data sn poll x p)) s r = around dir b (is_outside_answer (taken rules r sn)) (rides_outside rules p s) (new_units r (receiver_of rules (Ok (Data sn poll x p)) r))
-am_goes rules dir b (Ok (Status fields)) s r = before dir b (is_unknown (status_answer rules s fields) || is_beyond (control_answer rules r fields)) (new_units r (receiver_of rules (Ok (Status fields)) r))
-am_goes rules dir b (Ok (Reset rsn hfni)) s r = tt
-am_goes rules dir b (Ok (ResetAck rsn hfni)) s r = tt
-am_goes rules dir b (Err x) s r = (same_self dir, tt)
-
-um_goes : (dir : Dir) (b : ℕ) (view : Result UmView PduError) (s : Sends) (r : Receiving) → AllIn dir (hears_um dir b view s r).lines
-um_goes dir b (Ok view) s r = units_go dir b (after_um view r).waiting
-um_goes dir b (Err x) s r = (same_self dir, tt)
-
-hears_goes : (config : Config) (dir : Dir) (b : ℕ) (bits : List Bit) (bearing : Bearing) → AllIn dir (hears config dir b bits bearing).lines
-hears_goes config dir b bits (Transparent w us) = (same_self dir, tt)
-hears_goes config dir b bits (Unacknowledged s r) = um_goes dir b (um_reading (octets_of bits)) s r
-hears_goes config dir b bits (Acknowledged s r) = am_goes (rules_in config b) dir b (am_reading (octets_of bits)) s r
-
-one_goes : (config : Config) (into : Dir) (i : ℕ) (bits : List Bit) (to : Demux) (layer : Layer) → AllIn into (goes config into i bits to layer).lines
-one_goes config into i bits (To b skip) layer = hears_goes config into b (drop skip bits) (layer.bearings b)
-one_goes config into i bits ReservedField layer = (refl, tt)
-one_goes config into i bits (Unknown ct) layer = (refl, tt)
-one_goes config into i bits NoOne layer = (refl, tt)
-
-block_goes : (config : Config) (into : Dir) (i k : ℕ) (bits : List Bit) (good : Bool) (layer : Layer) → AllIn into (takes_one config into i k bits good layer).lines
-block_goes config into i k [] true layer = tt
-block_goes config into i k (bit ∷ bits) true layer = one_goes config into i (bit ∷ bits) (receiver config into i (bit ∷ bits)) layer
-block_goes config into i k bits false layer = (refl, tt)
+in_covers : (dir : Dir) (count : ℕ) → Covers (λ line. goes_in dir line ≡ true) dir count
+in_covers dir count = record {
+  bearer = λ b l. record { pdu_bad = λ n. same_self dir; outside = same_self dir; overlong = same_self dir; got = λ octets. same_self dir; got_bits = λ bits. same_self dir };
+  reserved = λ i. refl;
+  no_bearer = λ i ct. refl;
+  nobody = λ i. refl;
+}
 
 pub takes_go : (config : Config) (into : Dir) (i k : ℕ) (came : List Came) (layer : Layer) → AllIn into (takes config into i k came layer).lines
-takes_go config into i k [] layer = tt
-takes_go config into i k (c ∷ came) layer = in_append into (takes_one config into i k c.bits c.good layer).lines _ (block_goes config into i k c.bits c.good layer) (takes_go config into i (k + 1) came (takes_one config into i k c.bits c.good layer).layer)
+takes_go config into i k came layer = takes_all (λ line. goes_in into line ≡ true) config into (in_covers into (length config.bearers)) (λ j n. refl) i k came layer
 
 pub answer_goes : (dir out : Dir) (b : ℕ) (o : Offer) → AllIn dir (line_of_answer out b o ∷ [])
 answer_goes dir out b Accepted = (refl, tt)

@@ -21,7 +21,8 @@ use Rattle.dch_linkcmd.specs.LinkLink.{LinkState}
 use Rattle.dch_runlaw.specs.Frames.{IsFrame}
 use Rattle.dch_runlaw.specs.Runs.{Between, Event, Frame, Runs}
 use Rattle.dch_runlaw.proofs.ClearBetween.{Same, between}
-use Rattle.dch_runlaw.proofs.ClearKept.{KeepsLayer, below_keeps, start_format, start_same}
+use Rattle.dch_ue.proofs.Lasting.{GivesTheSame, reads_below-on}
+use Rattle.dch_runlaw.proofs.ClearKept.{start_format, start_same}
 use Rattle.dch_runlaw.proofs.ClearSent.{IsSentRadio}
 use Rattle.dch_runlaw.proofs.ClearTtis.{half_more, half_next, some_frames, starts_off}
 use Rattle.dch_runlaw.proofs.ClearUp.{KeepsFormats, UpHalf, UpLoaded}
@@ -55,7 +56,7 @@ pub starts_in : (planned : Planned) (old new : LinkState) (lines : List Line) (f
 starts_in planned old new lines f good a =
     let p : Parts planned old new lines f = parts planned old new lines f good a in
     let mid : Layer = (has_read planned new.ue.state.readings f.kept.layer).layer in
-    let keeps : KeepsLayer (ticks planned.config f.kept.layer) mid = below_keeps planned.config Down new.ue.state.readings (length planned.config.downlink.side.channels) (ticks planned.config f.kept.layer) in
+    let keeps : GivesTheSame (ticks planned.config f.kept.layer) mid = reads_below-on planned.config Down new.ue.state.readings (length planned.config.downlink.side.channels) (ticks planned.config f.kept.layer) in
     record {
       mid = mid;
       given = λ i. keeps.given i ∙ ap (λ (x : UeState). x.layer.given i) f.keeps.0;

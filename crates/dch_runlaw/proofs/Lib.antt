@@ -38,7 +38,6 @@ pub mod ClearHarmless
 pub mod ClearKept
 pub mod ClearNodes
 pub mod ClearRuns
-pub mod ClearSame
 pub mod ClearSent
 pub mod ClearSound
 pub mod ClearTtis

@@ -1,8 +1,6 @@
 -- Where all blocks that come are for bearers of their channel, no line says that a block has none, and a line on a PDU or a unit names a
 -- bearer that has a channel.
-use Rattle.std.proofs.Common.{◌≡◌, ◌+◌, ℕ, List, [], ◌∷◌, ◌++◌, Bool, true, false, Some, length, refl, ◌⊎◌, ⊎_elim}
-use Rattle.std.specs.Prelude.{◌||◌, Result, Ok, Err, nat_lt}
-use Rattle.std.proofs.lemmas.Bool.{cond_both}
+use Rattle.std.proofs.Common.{◌≡◌, ◌+◌, ℕ, List, [], ◌∷◌, ◌++◌, Bool, true, false, Some, drop, refl, ◌⊎◌, ⊎_elim}
 use Rattle.dch_bits.specs.declared.bit.Bit.{Bit}
 use Rattle.dch_bits.specs.declared.offer.Offer.{Offer}
 use Rattle.dch_bits.specs.declared.offer.Offer.TheVariants.{Accepted, Full as NoPlace, WrongSize}
@@ -11,28 +9,12 @@ use Rattle.dch_types.specs.declared.config.Config.{Config}
 use Rattle.dch_mac.specs.declared.answer.Demux.{Demux}
 use Rattle.dch_mac.specs.declared.answer.Demux.TheVariants.{To, Reserved as ReservedField, NoBearer as Unknown, Nobody as NoOne}
 use Rattle.dch_mac.specs.Receivers.{receiver}
-use Rattle.dch_rlcpdu.specs.declared.handed.PduError.{PduError}
-use Rattle.dch_rlcpdu.specs.declared.um.UmView.{UmView}
-use Rattle.dch_rlcpdu.specs.declared.am.AmView.{AmView}
-use Rattle.dch_rlcpdu.specs.declared.am.AmView.TheVariants.{Payload, Status, Reset, ResetAck}
-use Rattle.dch_rlcpdu.specs.Am.{am_reading}
-use Rattle.dch_rlcpdu.specs.Um.{um_reading}
-use Rattle.dch_rlcum.specs.Receiving.{Receiving, after_pdu as after_um}
-use Rattle.dch_am.specs.Receiver.{Receiver, taken}
-use Rattle.dch_am.specs.Rules.{Rules}
-use Rattle.dch_am.specs.Sender.{Sender}
-use Rattle.dch_am.specs.Acknowledging.{status_answer}
-use Rattle.dch_am.specs.Moves.{control_answer}
-use Rattle.dch_amlaw.specs.Pair.{is_beyond, is_outside_answer}
-use Rattle.dch_pair.specs.Answers.{is_unknown}
 use Rattle.dch_node.specs.Lines.{Line, Took, Full, Wrong, Bad, Reserved, NoBearer, Nobody, PduBad, Outside, Overlong, Got, GotBits, Iub, IubBad, Phy, PhyNone, BadTti, Differs}
-use Rattle.dch_layer2.specs.Bearings.{Bearing, Transparent, Unacknowledged, Acknowledged, Sends, channel_of, line_of_answer, rules_in}
-use Rattle.dch_layer2.specs.Hearing.{hears, hears_um, lines_by, new_units, receiver_of, rides_outside}
+use Rattle.dch_layer2.specs.Bearings.{channel_of, line_of_answer}
 use Rattle.dch_layer2.specs.Layers.{Came, Layer, goes, takes, takes_good, takes_one}
-use Rattle.dch_layer2.specs.Octets.{octets_of}
-use Rattle.dch_layer2.specs.UnitLines.{line_if, unit_line, unit_lines}
 use Rattle.dch_runlaw.proofs.Names.{receiver_has}
 use Rattle.dch_runlaw.proofs.PlainReaching.{Reaches}
+use Rattle.dch_runlaw.proofs.TextTakes.{CoversBearer, Every, every_append, hears_all}
 
 -- a bearer has a channel in a direction
 pub record HasChannel (config : Config) (dir : Dir) (b : ℕ) : Type 0 where
@@ -62,48 +44,17 @@ IsKnown config into (Differs dir i) = Unit {0}
 
 -- and so of all lines
 abbrev pub AreKnown : Config → Dir → List Line → Type 0
-AreKnown config into [] = Unit {0}
-AreKnown config into (line ∷ lines) = IsKnown config into line × AreKnown config into lines
+AreKnown config into lines = Every (IsKnown config into) lines
 
 pub known-append : (config : Config) (into : Dir) (xs ys : List Line) → AreKnown config into xs → AreKnown config into ys → AreKnown config into (xs ++ ys)
-known-append config into [] ys first second = second
-known-append config into (x ∷ xs) ys first second = (first.0, known-append config into xs ys first.1 second)
+known-append config into xs ys first second = every_append (IsKnown config into) xs ys first second
 
 -- what comes for a bearer that has a channel
-unit_known : (config : Config) (into : Dir) (b : ℕ) (unit : List ℕ) → HasChannel config into b → IsKnown config into (unit_line into b unit)
-unit_known config into b unit has = cond_both (nat_lt 1500 (length unit)) _ _ (λ l. IsKnown config into l) (λ _. has) (λ _. tt)
-
-units_known : (config : Config) (into : Dir) (b : ℕ) (units : List (List ℕ)) → HasChannel config into b → AreKnown config into (unit_lines into b units)
-units_known config into b [] has = tt
-units_known config into b (unit ∷ units) has = (unit_known config into b unit has, units_known config into b units has)
-
-outside_known : (config : Config) (into : Dir) (b : ℕ) (x : Bool) → HasChannel config into b → AreKnown config into (line_if x (Outside into b))
-outside_known config into b true has = (has, tt)
-outside_known config into b false has = tt
-
-um_known : (config : Config) (into : Dir) (b : ℕ) (view : Result UmView PduError) (s : Sends) (r : Receiving) → HasChannel config into b → AreKnown config into (hears_um into b view s r).lines
-um_known config into b (Ok view) s r has = units_known config into b (after_um view r).waiting has
-um_known config into b (Err e) s r has = (has, tt)
-
-am_known : (config : Config) (into : Dir) (b : ℕ) (rules : Rules) (view : Result AmView PduError) (s : Sender) (r : Receiver) (units : List (List ℕ)) → HasChannel config into b → AreKnown config into (lines_by rules into b view s r units)
-am_known config into b rules (Ok (Payload sn poll c piggyback)) s r units has =
-    known-append config into (line_if (is_outside_answer (taken rules r sn)) (Outside into b) ++ unit_lines into b units) (line_if (rides_outside rules piggyback s) (Outside into b))
-    (known-append config into (line_if (is_outside_answer (taken rules r sn)) (Outside into b)) (unit_lines into b units) (outside_known config into b (is_outside_answer (taken rules r sn)) has) (units_known config into b units has))
-    (outside_known config into b (rides_outside rules piggyback s) has)
-am_known config into b rules (Ok (Status fields)) s r units has =
-    known-append config into (line_if (is_unknown (status_answer rules s fields) || is_beyond (control_answer rules r fields)) (Outside into b)) (unit_lines into b units)
-    (outside_known config into b (is_unknown (status_answer rules s fields) || is_beyond (control_answer rules r fields)) has) (units_known config into b units has)
-am_known config into b rules (Ok (Reset rsn hfni)) s r units has = tt
-am_known config into b rules (Ok (ResetAck rsn hfni)) s r units has = tt
-am_known config into b rules (Err e) s r units has = (has, tt)
-
-hears_known : (config : Config) (into : Dir) (b : ℕ) (bits : List Bit) (bearing : Bearing) → HasChannel config into b → AreKnown config into (hears config into b bits bearing).lines
-hears_known config into b bits (Transparent w us) has = (tt, tt)
-hears_known config into b bits (Unacknowledged s r) has = um_known config into b (um_reading (octets_of bits)) s r has
-hears_known config into b bits (Acknowledged s r) has = am_known config into b (rules_in config b) (am_reading (octets_of bits)) s r (new_units r (receiver_of (rules_in config b) (am_reading (octets_of bits)) r)) has
+known_covers : (config : Config) (into : Dir) (b : ℕ) → HasChannel config into b → CoversBearer (IsKnown config into) into b
+known_covers config into b has = record { pdu_bad = λ n. has; outside = has; overlong = has; got = λ octets. tt; got_bits = λ bits. tt }
 
 goes_known : (config : Config) (into : Dir) (i : ℕ) (bits : List Bit) (to : Demux) (layer : Layer) → receiver config into i bits ≡ to → Reaches config into i bits → AreKnown config into (goes config into i bits to layer).lines
-goes_known config into i bits (To b skip) layer e has = hears_known config into b _ (layer.bearings b) (record { channel = i; is = receiver_has config into i b skip bits e })
+goes_known config into i bits (To b skip) layer e has = hears_all (IsKnown config into) config into b (known_covers config into b (record { channel = i; is = receiver_has config into i b skip bits e })) (drop skip bits) (layer.bearings b)
 goes_known config into i bits ReservedField layer e has = let other = has.is in absurd (cc)
 goes_known config into i bits (Unknown ct) layer e has = let other = has.is in absurd (cc)
 goes_known config into i bits NoOne layer e has = let other = has.is in absurd (cc)

@@ -38,7 +38,7 @@ use Rattle.dch_linkcmd.specs.soft_stage.Stage.TheVariants.{Combine}
 use Rattle.dch_runlaw.specs.Intervals.{AreGood, MayComeDamaged}
 use Rattle.dch_runlaw.specs.Sized.{AreSized}
 use Rattle.dch_runlaw.proofs.ClearBlocks.{arrive_good}
-use Rattle.dch_runlaw.proofs.ClearSame.{same_bits}
+use Rattle.dch_node.proofs.IubFrames.{same_bits}
 use Rattle.dch_runlaw.proofs.ClearTtis.{over_or_on}
 use Rattle.dch_runlaw.proofs.IntervalCounting.{starts_zero}
 use Rattle.dch_runlaw.specs.Legs.{AreAllGiven, ArrivesAtLeg, AsSent, GetsSo, OthersAreSent, TakesGiven, as_sent, tti_sent}

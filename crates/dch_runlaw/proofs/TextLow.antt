@@ -16,12 +16,7 @@ low_append (x ∷ xs) ys h k = (h.0, low_append xs ys h.1 k)
 
 low_covers : (dir : Dir) (count : ℕ) → Covers IsLow dir count
 low_covers dir count = record {
-  pdu_bad = λ b n l. tt;
-  outside = λ b l. tt;
-  overlong = λ b l. tt;
-  got = λ b octets l. tt;
-  got_bits = λ b bits l. tt;
-  bad = λ i k. tt;
+  bearer = λ b l. record { pdu_bad = λ n. tt; outside = tt; overlong = tt; got = λ octets. tt; got_bits = λ bits. tt };
   reserved = λ i. tt;
   no_bearer = λ i ct. tt;
   nobody = λ i. tt;
@@ -32,7 +27,7 @@ all_low [] h = tt
 all_low (x ∷ xs) h = (h.0, all_low xs h.1)
 
 pub takes_low : (config : Config) (into : Dir) (i k : ℕ) (came : List Came) (layer : Layer) → AreLow (takes config into i k came layer).lines
-takes_low config into i k came layer = all_low (takes config into i k came layer).lines (takes_all IsLow config into (low_covers into (length config.bearers)) i k came layer)
+takes_low config into i k came layer = all_low (takes config into i k came layer).lines (takes_all IsLow config into (low_covers into (length config.bearers)) (λ j n. tt) i k came layer)
 
 pub answer_low : (out : Dir) (b : ℕ) (o : Offer) → AreLow (line_of_answer out b o ∷ [])
 answer_low out b Accepted = (tt, tt)

@@ -39,62 +39,68 @@ pub every_append : (P : Line → Type 0) (xs ys : List Line) → Every P xs → 
 every_append P [] ys h k = k
 every_append P (x ∷ xs) ys h k = (h.0, every_append P xs ys h.1 k)
 
--- the lines on PDUs and units of the first bearers, and on blocks for no bearer
+-- the lines on PDUs and units of a bearer
+pub record CoversBearer (P : Line → Type 0) (into : Dir) (b : ℕ) : Type 0 where
+  pub pdu_bad : (n : ℕ) → P (PduBad into b n)
+  pub outside : P (Outside into b)
+  pub overlong : P (Overlong into b)
+  pub got : (octets : List ℕ) → P (Got into b octets)
+  pub got_bits : (bits : List Bit) → P (GotBits into b bits)
+
+-- those of the first bearers, and the lines on good blocks for no bearer
 pub record Covers (P : Line → Type 0) (into : Dir) (count : ℕ) : Type 0 where
-  pub pdu_bad : (b n : ℕ) → b < count → P (PduBad into b n)
-  pub outside : (b : ℕ) → b < count → P (Outside into b)
-  pub overlong : (b : ℕ) → b < count → P (Overlong into b)
-  pub got : (b : ℕ) (octets : List ℕ) → b < count → P (Got into b octets)
-  pub got_bits : (b : ℕ) (bits : List Bit) → b < count → P (GotBits into b bits)
-  pub bad : (i k : ℕ) → P (Bad into i k)
+  pub bearer : (b : ℕ) → b < count → CoversBearer P into b
   pub reserved : (i : ℕ) → P (Reserved into i)
   pub no_bearer : (i ct : ℕ) → P (NoBearer into i ct)
   pub nobody : (i : ℕ) → P (Nobody into i)
 
-units_all : (P : Line → Type 0) (dir : Dir) (count : ℕ) → Covers P dir count → (b : ℕ) → b < count → (us : List (List ℕ)) → Every P (unit_lines dir b us)
-units_all P dir count c b l [] = tt
-units_all P dir count c b l (u ∷ us) = (cond_both (nat_lt 1500 (length u)) _ _ P (λ _. c.overlong b l) (λ _. c.got b u l), units_all P dir count c b l us)
+units_all : (P : Line → Type 0) (dir : Dir) (b : ℕ) → CoversBearer P dir b → (us : List (List ℕ)) → Every P (unit_lines dir b us)
+units_all P dir b c [] = tt
+units_all P dir b c (u ∷ us) = (cond_both (nat_lt 1500 (length u)) _ _ P (λ _. c.overlong) (λ _. c.got u), units_all P dir b c us)
 
-outside_all : (P : Line → Type 0) (dir : Dir) (count : ℕ) → Covers P dir count → (b : ℕ) → b < count → (o : Bool) → Every P (line_if o (Outside dir b))
-outside_all P dir count c b l true = (c.outside b l, tt)
-outside_all P dir count c b l false = tt
+outside_all : (P : Line → Type 0) (dir : Dir) (b : ℕ) → CoversBearer P dir b → (o : Bool) → Every P (line_if o (Outside dir b))
+outside_all P dir b c true = (c.outside, tt)
+outside_all P dir b c false = tt
 
-before : (P : Line → Type 0) (dir : Dir) (count : ℕ) → Covers P dir count → (b : ℕ) → b < count → (o : Bool) (us : List (List ℕ)) → Every P (line_if o (Outside dir b) ++ unit_lines dir b us)
-before P dir count c b l o us = every_append P (line_if o (Outside dir b)) (unit_lines dir b us) (outside_all P dir count c b l o) (units_all P dir count c b l us)
+before : (P : Line → Type 0) (dir : Dir) (b : ℕ) → CoversBearer P dir b → (o : Bool) (us : List (List ℕ)) → Every P (line_if o (Outside dir b) ++ unit_lines dir b us)
+before P dir b c o us = every_append P (line_if o (Outside dir b)) (unit_lines dir b us) (outside_all P dir b c o) (units_all P dir b c us)
 
-around : (P : Line → Type 0) (dir : Dir) (count : ℕ) → Covers P dir count → (b : ℕ) → b < count → (o q : Bool) (us : List (List ℕ)) → Every P (line_if o (Outside dir b) ++ unit_lines dir b us ++ line_if q (Outside dir b))
-around P dir count c b l o q us = every_append P (line_if o (Outside dir b) ++ unit_lines dir b us) (line_if q (Outside dir b)) (before P dir count c b l o us) (outside_all P dir count c b l q)
+around : (P : Line → Type 0) (dir : Dir) (b : ℕ) → CoversBearer P dir b → (o q : Bool) (us : List (List ℕ)) → Every P (line_if o (Outside dir b) ++ unit_lines dir b us ++ line_if q (Outside dir b))
+around P dir b c o q us = every_append P (line_if o (Outside dir b) ++ unit_lines dir b us) (line_if q (Outside dir b)) (before P dir b c o us) (outside_all P dir b c q)
 
-by_all : (P : Line → Type 0) (dir : Dir) (count : ℕ) → Covers P dir count → (b : ℕ) → b < count → (rules : Rules) (view : Result AmView PduError) (s : Sender) (r : Receiver) (units : List (List ℕ)) → Every P (lines_by rules dir b view s r units)
-by_all P dir count c b l rules (Ok (Data sn poll x p)) s r units = around P dir count c b l (is_outside_answer (taken rules r sn)) (rides_outside rules p s) units
-by_all P dir count c b l rules (Ok (Status fields)) s r units = before P dir count c b l (is_unknown (status_answer rules s fields) || is_beyond (control_answer rules r fields)) units
-by_all P dir count c b l rules (Ok (Reset rsn hfni)) s r units = tt
-by_all P dir count c b l rules (Ok (ResetAck rsn hfni)) s r units = tt
-by_all P dir count c b l rules (Err x) s r units = (c.pdu_bad b (error_number x) l, tt)
+by_all : (P : Line → Type 0) (dir : Dir) (b : ℕ) → CoversBearer P dir b → (rules : Rules) (view : Result AmView PduError) (s : Sender) (r : Receiver) (units : List (List ℕ)) → Every P (lines_by rules dir b view s r units)
+by_all P dir b c rules (Ok (Data sn poll x p)) s r units = around P dir b c (is_outside_answer (taken rules r sn)) (rides_outside rules p s) units
+by_all P dir b c rules (Ok (Status fields)) s r units = before P dir b c (is_unknown (status_answer rules s fields) || is_beyond (control_answer rules r fields)) units
+by_all P dir b c rules (Ok (Reset rsn hfni)) s r units = tt
+by_all P dir b c rules (Ok (ResetAck rsn hfni)) s r units = tt
+by_all P dir b c rules (Err x) s r units = (c.pdu_bad (error_number x), tt)
 
-um_all : (P : Line → Type 0) (dir : Dir) (count : ℕ) → Covers P dir count → (b : ℕ) → b < count → (view : Result UmView PduError) (s : Sends) (r : Receiving) → Every P (hears_um dir b view s r).lines
-um_all P dir count c b l (Ok view) s r = units_all P dir count c b l (after_um view r).waiting
-um_all P dir count c b l (Err x) s r = (c.pdu_bad b (error_number x) l, tt)
+um_all : (P : Line → Type 0) (dir : Dir) (b : ℕ) → CoversBearer P dir b → (view : Result UmView PduError) (s : Sends) (r : Receiving) → Every P (hears_um dir b view s r).lines
+um_all P dir b c (Ok view) s r = units_all P dir b c (after_um view r).waiting
+um_all P dir b c (Err x) s r = (c.pdu_bad (error_number x), tt)
 
-hears_all : (P : Line → Type 0) (config : Config) (dir : Dir) (count : ℕ) → Covers P dir count → (b : ℕ) → b < count → (bits : List Bit) (bearing : Bearing) → Every P (hears config dir b bits bearing).lines
-hears_all P config dir count c b l bits (Transparent w us) = (c.got_bits b bits l, tt)
-hears_all P config dir count c b l bits (Unacknowledged s r) = um_all P dir count c b l (um_reading (octets_of bits)) s r
-hears_all P config dir count c b l bits (Acknowledged s r) = by_all P dir count c b l (rules_in config b) (am_reading (octets_of bits)) s r (new_units r (receiver_of (rules_in config b) (am_reading (octets_of bits)) r))
+-- all lines of a bearer
+pub hears_all : (P : Line → Type 0) (config : Config) (dir : Dir) (b : ℕ) → CoversBearer P dir b → (bits : List Bit) (bearing : Bearing) → Every P (hears config dir b bits bearing).lines
+hears_all P config dir b c bits (Transparent w us) = (c.got_bits bits, tt)
+hears_all P config dir b c bits (Unacknowledged s r) = um_all P dir b c (um_reading (octets_of bits)) s r
+hears_all P config dir b c bits (Acknowledged s r) = by_all P dir b c (rules_in config b) (am_reading (octets_of bits)) s r (new_units r (receiver_of (rules_in config b) (am_reading (octets_of bits)) r))
 
 goes_all : (P : Line → Type 0) (config : Config) (into : Dir) → Covers P into (length config.bearers) → (i : ℕ) (bits : List Bit) (to : Demux) (layer : Layer) → receiver config into i bits ≡ to → Every P (goes config into i bits to layer).lines
-goes_all P config into c i bits (To b skip) layer e = hears_all P config into (length config.bearers) c b (reached config into i bits b skip e).there (drop skip bits) (layer.bearings b)
+goes_all P config into c i bits (To b skip) layer e = hears_all P config into b (c.bearer b (reached config into i bits b skip e).there) (drop skip bits) (layer.bearings b)
 goes_all P config into c i bits ReservedField layer e = (c.reserved i, tt)
 goes_all P config into c i bits (Unknown ct) layer e = (c.no_bearer i ct, tt)
 goes_all P config into c i bits NoOne layer e = (c.nobody i, tt)
 
-good_all : (P : Line → Type 0) (config : Config) (into : Dir) → Covers P into (length config.bearers) → (i : ℕ) (bits : List Bit) (layer : Layer) → Every P (takes_good config into i bits layer).lines
+-- of a good block
+pub good_all : (P : Line → Type 0) (config : Config) (into : Dir) → Covers P into (length config.bearers) → (i : ℕ) (bits : List Bit) (layer : Layer) → Every P (takes_good config into i bits layer).lines
 good_all P config into c i [] layer = tt
 good_all P config into c i (bit ∷ bits) layer = goes_all P config into c i (bit ∷ bits) (receiver config into i (bit ∷ bits)) layer refl
 
-one_all : (P : Line → Type 0) (config : Config) (into : Dir) → Covers P into (length config.bearers) → (i k : ℕ) (bits : List Bit) (good : Bool) (layer : Layer) → Every P (takes_one config into i k bits good layer).lines
-one_all P config into c i k bits true layer = good_all P config into c i bits layer
-one_all P config into c i k bits false layer = (c.bad i k, tt)
+one_all : (P : Line → Type 0) (config : Config) (into : Dir) → Covers P into (length config.bearers) → ((i k : ℕ) → P (Bad into i k)) → (i k : ℕ) (bits : List Bit) (good : Bool) (layer : Layer) → Every P (takes_one config into i k bits good layer).lines
+one_all P config into c bad i k bits true layer = good_all P config into c i bits layer
+one_all P config into c bad i k bits false layer = (bad i k, tt)
 
-pub takes_all : (P : Line → Type 0) (config : Config) (into : Dir) → Covers P into (length config.bearers) → (i k : ℕ) (came : List Came) (layer : Layer) → Every P (takes config into i k came layer).lines
-takes_all P config into c i k [] layer = tt
-takes_all P config into c i k (x ∷ came) layer = every_append P (takes_one config into i k x.bits x.good layer).lines _ (one_all P config into c i k x.bits x.good layer) (takes_all P config into c i (k + 1) came (takes_one config into i k x.bits x.good layer).layer)
+-- and of any blocks
+pub takes_all : (P : Line → Type 0) (config : Config) (into : Dir) → Covers P into (length config.bearers) → ((i k : ℕ) → P (Bad into i k)) → (i k : ℕ) (came : List Came) (layer : Layer) → Every P (takes config into i k came layer).lines
+takes_all P config into c bad i k [] layer = tt
+takes_all P config into c bad i k (x ∷ came) layer = every_append P (takes_one config into i k x.bits x.good layer).lines _ (one_all P config into c bad i k x.bits x.good layer) (takes_all P config into c bad i (k + 1) came (takes_one config into i k x.bits x.good layer).layer)

@@ -8,7 +8,7 @@ use Rattle.dch_types.specs.declared.config.Downlink.{Downlink}
 use Rattle.dch_accept.specs.Plans.{Planned}
 use Rattle.dch_frame.specs.Downlinks.{IsDownlinkPlan, places_of}
 use Rattle.dch_dlphy.specs.Loaded.{matching_of}
-use Rattle.dch_dlphy.proofs.Rooms.{tti_room}
+use Rattle.dch_accept.proofs.TtiPlaces.{tti_room}
 
 pub padded_short : (frames bits : ℕ) → IsFrames frames → bits ≤ 131072 → padded bits frames ≤ 460800
 padded_short frames bits is few = omega (arith, is, few, div_ceil_times bits frames (omega (arith, is)))

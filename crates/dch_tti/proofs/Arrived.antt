@@ -1,8 +1,7 @@
 -- The blocks that are written and marked are those that were read, and where little is damaged those that were sent.
-use Rattle.std.proofs.Common.{◌≡◌, ◌+◌, ◌*◌, ◌/◌, ◌%◌, ◌<◌, ◌≤◌, ℕ, zero, suc, List, length, take, drop, get_or, arith, ap, sym, ◌∙◌, subst}
+use Rattle.std.proofs.Common.{◌≡◌, ◌+◌, ◌<◌, ◌≤◌, ℕ, List, length, take, drop, get_or, arith, ap, sym, ◌∙◌, subst}
 use Rattle.std.specs.Prelude.{◌↔◌, IsTrue, false, reverse}
-use Rattle.std.proofs.lemmas.List.{same_lists, take_at}
-use Rattle.std.proofs.lemmas.Nat.{div-add-mod', div_below, mod_below}
+use Rattle.std.proofs.lemmas.List.{take_at}
 use Rattle.dch_bits.specs.declared.bit.Bit.{Bit}
 use Rattle.dch_bits.specs.declared.bit.Vote.{Vote}
 use Rattle.dch_types.specs.declared.channel.Coding.{Coding}
@@ -15,11 +14,12 @@ use Rattle.dch_coding.specs.Ttis.{AreJoined, part}
 use Rattle.dch_accept.specs.Blocks.{Held, bits_of, block_at}
 use Rattle.dch_accept.specs.BlockLending.{with_bits}
 use Rattle.dch_accept.specs.Frames.{overwritten}
+use Rattle.dch_accept.proofs.Parts.{same_parts}
 use Rattle.dch_tti.specs.JoinedBits.{AreRead}
 use Rattle.dch_tti.specs.Corrected.{ReadsCorrectable}
 use Rattle.dch_tti.specs.Received.{IsReceived, ArrivesAs}
 use Rattle.dch_tti.proofs.Lengths.{joined_le}
-use Rattle.dch_tti.proofs.Parts.{length-part, get_or-part}
+use Rattle.dch_tti.proofs.Parts.{length-part}
 use Rattle.dch_tti.proofs.Corrected.{joined_corrected}
 
 -- a list that is written over whole
@@ -56,24 +56,6 @@ received_are channel number format votes shaped held written joined size count s
 -- a block stands in front of its parity
 attached_front : (crc : Crc) (block out : List Bit) (size : ℕ) → length block ≡ size → IsAttached crc block out → take size out ≡ block
 attached_front crc block out size long attached = ap (take size) attached.whole ∙ take_at block (reverse attached.parity) size long
-
--- lists with the same parts
-pub same_parts : (xs ys : List Bit) (n size : ℕ) → length xs ≡ n * size → length ys ≡ n * size → ((r : ℕ) → r < n → part r size xs ≡ part r size ys) → xs ≡ ys
-same_parts xs ys n size long longer same = same_lists xs ys (omega (arith, long, longer)) (λ k d inside.
-    let within : k < n * size = omega (arith, long) in
-    let some : 0 < size = some_size n size k within in
-    let row : k / size < n = div_below k size n some within in
-    let small : k % size < size = mod_below k size some in
-    let place : k / size * size + k % size ≡ k = div-add-mod' k size in
-    ap (λ k. get_or xs k d) (sym place)
-    ∙ sym (get_or-part xs size (k / size) (k % size) d small)
-    ∙ ap (λ (zs : List Bit). get_or zs (k % size) d) (same (k / size) row)
-    ∙ get_or-part ys size (k / size) (k % size) d small
-    ∙ ap (λ k. get_or ys k d) place)
-  where
-    some_size : (n size k : ℕ) → k < n * size → 0 < size
-    some_size n zero k inside = absurd (omega arith)
-    some_size n (suc size) k inside = omega arith
 
 -- where the joined bits of blocks are read, the blocks are received, all good
 arrived_as : (channel : Trch) (number : ℕ) (format : Format) (votes : List Vote) (held : Held) (blocks joined : List Bit) (received : IsReceived channel number format votes held) → length blocks ≡ bits_of format → AreJoined channel format blocks joined → received.joined ≡ joined → ArrivesAs blocks held

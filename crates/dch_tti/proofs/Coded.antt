@@ -8,7 +8,7 @@ use Rattle.dch_coding.specs.Segments.{plan_of}
 use Rattle.dch_coding.proofs.Attached.{attached_one}
 use Rattle.dch_coding.specs.Chain.{coded_of}
 use Rattle.dch_coding.specs.Ttis.{IsCodedTti, part}
-use Rattle.dch_tti.proofs.Arrived.{same_parts}
+use Rattle.dch_accept.proofs.Parts.{same_parts}
 use Rattle.dch_tti.proofs.Blocks.{length-coded_blocks}
 
 pub coded_one : (channel : Trch) (format : Format) (blocks one other : List Bit) → IsCodedTti channel format blocks one → IsCodedTti channel format blocks other → one ≡ other

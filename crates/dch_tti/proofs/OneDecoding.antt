@@ -23,7 +23,7 @@ use Rattle.dch_trellis.specs.Nearest.{disagreement, IsFirst, IsNearest}
 use Rattle.dch_accept.specs.Blocks.{Held, block_at}
 use Rattle.dch_tti.specs.JoinedBits.{IsRead, AreRead}
 use Rattle.dch_tti.specs.Received.{IsReceived}
-use Rattle.dch_tti.proofs.Arrived.{same_parts}
+use Rattle.dch_accept.proofs.Parts.{same_parts}
 use Rattle.dch_tti.proofs.Blocks.{code_block-filled, filler_short, same_blocks}
 use Rattle.dch_tti.proofs.Lengths.{joined_le}
 

@@ -3,7 +3,7 @@ use Rattle.dch_types.specs.declared.config.Downlink.{Downlink}
 use Rattle.dch_types.specs.Parts.{channel_at}
 use Rattle.dch_config.specs.Good.{IsGood}
 use Rattle.dch_frame.specs.Downlinks.{places_of}
-use Rattle.dch_dlphy.proofs.Rooms.{tti_room}
+use Rattle.dch_accept.proofs.TtiPlaces.{tti_room}
 use Rattle.dch_dlphy.proofs.parts.bits_per_frame.Goals as goal
 
 pub returns-clause-room : goal.returns-clause-room

@@ -2,7 +2,7 @@ use Rattle.std.proofs.Common.{◌≡◌, ◌<◌, ◌≤◌, ◌*◌, ◌∙◌,
 use Rattle.dch_types.specs.Parts.{channel_at}
 use Rattle.dch_frame.specs.Downlinks.{places_of}
 use Rattle.dch_collision.proofs.FrameSizes.{some_frames}
-use Rattle.dch_margin.proofs.Rooms.{tti_room}
+use Rattle.dch_accept.proofs.TtiPlaces.{tti_room}
 use Rattle.dch_margin.proofs.carrier.places_down.Goals as goal
 
 room : (frames places : ℕ) → 0 < frames → frames * places ≤ 457920 → places ≤ 457920

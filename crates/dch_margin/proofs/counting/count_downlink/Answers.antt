@@ -3,7 +3,7 @@ use Rattle.dch_types.specs.Parts.{channel_at}
 use Rattle.dch_frame.specs.Patterns.{copies_below}
 use Rattle.dch_frame.specs.declared.pattern.Pattern.{Pattern}
 use Rattle.dch_frame.specs.Downlinks.{IsMatching, matching_at}
-use Rattle.dch_margin.proofs.Rooms.{tti_room}
+use Rattle.dch_accept.proofs.TtiPlaces.{tti_room}
 use Rattle.dch_margin.proofs.counting.count_downlink.Goals as goal
 
 pub count-requires-clause-few : goal.count-requires-clause-few
