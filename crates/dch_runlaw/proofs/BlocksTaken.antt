@@ -26,11 +26,12 @@ use Rattle.dch_layer2.specs.UnitLines.{unit_line, unit_lines}
 use Rattle.dch_layer2.specs.Octets.{octets_of}
 use Rattle.dch_am.specs.Entities.{pdu_of}
 use Rattle.dch_pair.proofs.Units.{Grown, grown_by_pdu}
+use Rattle.dch_linkcmd.specs.Checks.{IsSublist}
 use Rattle.dch_runlaw.specs.Calls.{for_each}
 use Rattle.dch_runlaw.specs.Doings.{block_if, good_blocks, has_bits}
 use Rattle.dch_runlaw.specs.History.{calls_of, is_mine, is_to}
 use Rattle.dch_runlaw.specs.Lines.{is_of, lines_of}
-use Rattle.dch_runlaw.specs.Worlds.{IsFront, IsSublist}
+use Rattle.dch_runlaw.specs.Worlds.{IsFront}
 use Rattle.dch_runlaw.proofs.Catching.{AlwaysSafe, Caught, Wires, catches, pair_of}
 use Rattle.dch_runlaw.proofs.Names.{number_same, other_number, receiver_has, receiver_skips, same_number}
 use Rattle.dch_runlaw.proofs.Sublists.{behind, behind-append, either, front_behind, front_first, past, sub_behind, sub_front}

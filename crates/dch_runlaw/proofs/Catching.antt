@@ -23,8 +23,9 @@ use Rattle.dch_pair.proofs.Lines.{IsWire}
 use Rattle.dch_node.specs.Lines.{Outside}
 use Rattle.dch_layer2.specs.UnitLines.{line_if, unit_lines}
 use Rattle.dch_layer2.specs.Octets.{octets_of}
+use Rattle.dch_linkcmd.specs.Checks.{IsSublist}
 use Rattle.dch_runlaw.specs.History.{calls_of}
-use Rattle.dch_runlaw.specs.Worlds.{IsFront, IsSublist}
+use Rattle.dch_runlaw.specs.Worlds.{IsFront}
 use Rattle.dch_runlaw.proofs.Sublists.{either, past, same, same_false, same_true}
 
 -- blocks of a history, and the bits of blocks that are read as just these

@@ -9,7 +9,8 @@ use Rattle.dch_types.specs.declared.config.Config.{Config}
 use Rattle.dch_layer2.specs.Bearings.{line_of_answer}
 use Rattle.dch_layer2.specs.Layers.{Came, Layer, takes}
 use Rattle.dch_node.specs.Lines.{Line, Took, Full, Wrong, Bad, Reserved, NoBearer, Nobody, PduBad, Outside, Overlong, Got, GotBits, Iub, IubBad, Phy, PhyNone, BadTti, Differs}
-use Rattle.dch_runlaw.specs.Directions.{is_on, lines_on, same_dir}
+use Rattle.dch_damage.specs.Damage.{same_dir}
+use Rattle.dch_runlaw.specs.Directions.{is_on, lines_on}
 use Rattle.dch_runlaw.specs.Lines.{is_of, lines_of}
 use Rattle.dch_runlaw.proofs.Sublists.{either}
 use Rattle.dch_runlaw.proofs.TextTakes.{Covers, Every, every_append, takes_all}

@@ -13,11 +13,12 @@ use Rattle.dch_amlaw.proofs.History.{always_safe}
 use Rattle.dch_amlaw.proofs.Lossless.{always_whole}
 use Rattle.dch_layer2.specs.Bearings.{ct_of, opened_mode, pdu_octets, rules_in}
 use Rattle.dch_layer2.specs.Layers.{Came, takes}
+use Rattle.dch_linkcmd.specs.Checks.{IsSublist}
 use Rattle.dch_runlaw.specs.Calls.{calls_at, calls_in, calls_in_all, run_calls}
 use Rattle.dch_runlaw.specs.Doings.{Blocks, Doing, Offers, Says, Starts, Takes, Ticks, good_blocks, taken_by}
 use Rattle.dch_runlaw.specs.History.{AreLeft, IsAmBearer, IsEndOf, IsHistory, IsWholeHistory, calls_of, pair_after, is_mine}
 use Rattle.dch_runlaw.specs.Lines.{lines_of}
-use Rattle.dch_runlaw.specs.Worlds.{AreFaithful, AreWholeSoFar, At as OneEvent, DoesAll, DoesNear, Far, Happens, IsFront, IsSublist, Log, Near, Runs, World, opened_world, turned}
+use Rattle.dch_runlaw.specs.Worlds.{AreFaithful, AreWholeSoFar, At as OneEvent, DoesAll, DoesNear, Far, Happens, IsFront, Log, Near, Runs, World, opened_world, turned}
 use Rattle.dch_runlaw.proofs.Catching.{AlwaysSafe, Wires}
 use Rattle.dch_runlaw.proofs.OwnBlocks.{taken_mine}
 use Rattle.dch_runlaw.proofs.Steps.{Flow, Sim, Simulated, mine, more_lines, same_out, sim_blocks, sim_offers, sim_says, sim_starts, sim_ticks}

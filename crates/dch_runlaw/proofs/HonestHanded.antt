@@ -9,9 +9,9 @@ use Rattle.dch_accept.specs.Plans.{Planned}
 use Rattle.dch_node.specs.Lines.{Differs, Line}
 use Rattle.dch_amlaw.specs.Pair.{At}
 use Rattle.dch_layer2.specs.Bearings.{channel_of}
-use Rattle.dch_linkcmd.specs.Checks.{IsSublist as IsFound}
+use Rattle.dch_linkcmd.specs.Checks.{IsSublist}
 use Rattle.dch_linkcmd.specs.LinkLink.{LinkState, opened_link}
-use Rattle.dch_runlaw.specs.Worlds.{IsFront, IsSublist, turned}
+use Rattle.dch_runlaw.specs.Worlds.{IsFront, turned}
 use Rattle.dch_runlaw.proofs.Bearers.{is_am_bearer, is_tm_bearer, is_um_bearer}
 use Rattle.dch_runlaw.proofs.Tm.{tm_carried}
 use Rattle.dch_runlaw.proofs.UmWhole.{um_carried}
@@ -37,7 +37,7 @@ pub record AreChannels (planned : Planned) (up down : ℕ) : Type 0 where
   pub down_is : IsChannel planned.config.downlink.side down
 
 abbrev pub honest_setting : (planned : Planned) (up down : ℕ) → AreChannels planned up down → Setting planned up down
-honest_setting planned up down are = record { UpFits = IsFound; UpHolds = IsSublist; DownFits = IsFound; DownHolds = IsSublist; H = AreFaithful up down; up_joins = honest; down_joins = honest; build = λ n a b. record { up_is = a; down_is = b }; up_channel = are.up_is; down_channel = are.down_is }
+honest_setting planned up down are = record { UpFits = IsSublist; UpHolds = IsSublist; DownFits = IsSublist; DownHolds = IsSublist; H = AreFaithful up down; up_joins = honest; down_joins = honest; build = λ n a b. record { up_is = a; down_is = b }; up_channel = are.up_is; down_channel = are.down_is }
 
 abbrev pub whole_setting : (planned : Planned) (up down : ℕ) → AreChannels planned up down → Setting planned up down
 whole_setting planned up down are = record { UpFits = λ a b. a ≡ b; UpHolds = IsFront; DownFits = λ a b. a ≡ b; DownHolds = IsFront; H = AreWhole up down; up_joins = undamaged; down_joins = undamaged; build = λ n a b. record { up_is = a; down_is = b }; up_channel = are.up_is; down_channel = are.down_is }
@@ -124,19 +124,19 @@ down_channels planned b down good there is = record {
 pub um_silent_up : (planned : Planned) (first b up : ℕ) (events : List Event) (new : LinkState) (lines : List Line) (run : Runs (opened_link planned first) events new lines) → IsUnacknowledged planned Up b up → Lacks lines (Differs Up up) → HasKnownUp planned first b up (end_events events (opened_link planned first) new lines run) new
 um_silent_up planned first b up events new lines run is lacks =
     let are = up_channels planned b up is.good is.there is.channel in
-    let o = goes planned first up 0 (up_setting IsFound IsSublist planned up 0 honest are) events new lines run (silent_honest planned Up up events (opened_link planned first) new lines run is.good (opened_fresh planned first).are are.up_is.there lacks) (any_fits planned Down 0 events (opened_link planned first) new lines run) in
+    let o = goes planned first up 0 (up_setting IsSublist IsSublist planned up 0 honest are) events new lines run (silent_honest planned Up up events (opened_link planned first) new lines run is.good (opened_fresh planned first).are are.up_is.there lacks) (any_fits planned Down 0 events (opened_link planned first) new lines run) in
     record {
-      reached = record { nodes = nodes_of planned up 0 (up_setting IsFound IsSublist planned up 0 honest are) new o.stand; run = o.run; are = record { ue = refl; rnc = refl; ue_lines = refl; rnc_lines = refl } };
-      known = um_up planned first first b up (end_events events (opened_link planned first) new lines run) (nodes_of planned up 0 (up_setting IsFound IsSublist planned up 0 honest are) new o.stand) (is_um_bearer planned.config Up b up is.good is.there is.mode is.channel) o.run (phase_holds IsFound IsSublist (up_frames planned up) new.rnc.state.cfn (o.stand.ul up) (new.ue.state.layer.given up).blocks honest o.stand.up_phase);
+      reached = record { nodes = nodes_of planned up 0 (up_setting IsSublist IsSublist planned up 0 honest are) new o.stand; run = o.run; are = record { ue = refl; rnc = refl; ue_lines = refl; rnc_lines = refl } };
+      known = um_up planned first first b up (end_events events (opened_link planned first) new lines run) (nodes_of planned up 0 (up_setting IsSublist IsSublist planned up 0 honest are) new o.stand) (is_um_bearer planned.config Up b up is.good is.there is.mode is.channel) o.run (phase_holds IsSublist IsSublist (up_frames planned up) new.rnc.state.cfn (o.stand.ul up) (new.ue.state.layer.given up).blocks honest o.stand.up_phase);
     }
 
 pub um_silent_down : (planned : Planned) (first b down : ℕ) (events : List Event) (new : LinkState) (lines : List Line) (run : Runs (opened_link planned first) events new lines) → IsUnacknowledged planned Down b down → Lacks lines (Differs Down down) → HasKnownDown planned first b down (end_events events (opened_link planned first) new lines run) new
 um_silent_down planned first b down events new lines run is lacks =
     let are = down_channels planned b down is.good is.there is.channel in
-    let o = goes planned first 0 down (down_setting IsFound IsSublist planned 0 down honest are) events new lines run (any_fits planned Up 0 events (opened_link planned first) new lines run) (silent_honest planned Down down events (opened_link planned first) new lines run is.good (opened_fresh planned first).are are.down_is.there lacks) in
+    let o = goes planned first 0 down (down_setting IsSublist IsSublist planned 0 down honest are) events new lines run (any_fits planned Up 0 events (opened_link planned first) new lines run) (silent_honest planned Down down events (opened_link planned first) new lines run is.good (opened_fresh planned first).are are.down_is.there lacks) in
     record {
-      reached = record { nodes = nodes_of planned 0 down (down_setting IsFound IsSublist planned 0 down honest are) new o.stand; run = o.run; are = record { ue = refl; rnc = refl; ue_lines = refl; rnc_lines = refl } };
-      known = um_down planned first first b down (end_events events (opened_link planned first) new lines run) (nodes_of planned 0 down (down_setting IsFound IsSublist planned 0 down honest are) new o.stand) (is_um_bearer planned.config Down b down is.good is.there is.mode is.channel) o.run (phase_holds IsFound IsSublist (down_frames planned down) new.rnc.state.cfn (o.stand.dl down) (new.rnc.state.layer.given down).blocks honest o.stand.down_phase);
+      reached = record { nodes = nodes_of planned 0 down (down_setting IsSublist IsSublist planned 0 down honest are) new o.stand; run = o.run; are = record { ue = refl; rnc = refl; ue_lines = refl; rnc_lines = refl } };
+      known = um_down planned first first b down (end_events events (opened_link planned first) new lines run) (nodes_of planned 0 down (down_setting IsSublist IsSublist planned 0 down honest are) new o.stand) (is_um_bearer planned.config Down b down is.good is.there is.mode is.channel) o.run (phase_holds IsSublist IsSublist (down_frames planned down) new.rnc.state.cfn (o.stand.dl down) (new.rnc.state.layer.given down).blocks honest o.stand.down_phase);
     }
 
 pub um_undamaged_up : (planned : Planned) (first b up : ℕ) (events : List Event) (new : LinkState) (lines : List Line) (run : Runs (opened_link planned first) events new lines) → IsUnacknowledged planned Up b up → IsUndamagedOn planned Up up events (opened_link planned first) new lines run → HasUmUp planned b up new
@@ -159,19 +159,19 @@ um_undamaged_down planned first b down events new lines run is fits =
 pub tm_silent_up : (planned : Planned) (first b up : ℕ) (events : List Event) (new : LinkState) (lines : List Line) (run : Runs (opened_link planned first) events new lines) → IsTransparent planned Up b up → Lacks lines (Differs Up up) → HasSomeUp planned first b up (end_events events (opened_link planned first) new lines run) new
 tm_silent_up planned first b up events new lines run is lacks =
     let are = up_channels planned b up is.good is.there is.channel in
-    let o = goes planned first up 0 (up_setting IsFound IsSublist planned up 0 honest are) events new lines run (silent_honest planned Up up events (opened_link planned first) new lines run is.good (opened_fresh planned first).are are.up_is.there lacks) (any_fits planned Down 0 events (opened_link planned first) new lines run) in
+    let o = goes planned first up 0 (up_setting IsSublist IsSublist planned up 0 honest are) events new lines run (silent_honest planned Up up events (opened_link planned first) new lines run is.good (opened_fresh planned first).are are.up_is.there lacks) (any_fits planned Down 0 events (opened_link planned first) new lines run) in
     record {
-      reached = record { nodes = nodes_of planned up 0 (up_setting IsFound IsSublist planned up 0 honest are) new o.stand; run = o.run; are = record { ue = refl; rnc = refl; ue_lines = refl; rnc_lines = refl } };
-      some = tm_up planned first first b up (end_events events (opened_link planned first) new lines run) (nodes_of planned up 0 (up_setting IsFound IsSublist planned up 0 honest are) new o.stand) (is_tm_bearer planned.config Up b up is.good is.there is.mode is.channel) o.run (phase_holds IsFound IsSublist (up_frames planned up) new.rnc.state.cfn (o.stand.ul up) (new.ue.state.layer.given up).blocks honest o.stand.up_phase);
+      reached = record { nodes = nodes_of planned up 0 (up_setting IsSublist IsSublist planned up 0 honest are) new o.stand; run = o.run; are = record { ue = refl; rnc = refl; ue_lines = refl; rnc_lines = refl } };
+      some = tm_up planned first first b up (end_events events (opened_link planned first) new lines run) (nodes_of planned up 0 (up_setting IsSublist IsSublist planned up 0 honest are) new o.stand) (is_tm_bearer planned.config Up b up is.good is.there is.mode is.channel) o.run (phase_holds IsSublist IsSublist (up_frames planned up) new.rnc.state.cfn (o.stand.ul up) (new.ue.state.layer.given up).blocks honest o.stand.up_phase);
     }
 
 pub tm_silent_down : (planned : Planned) (first b down : ℕ) (events : List Event) (new : LinkState) (lines : List Line) (run : Runs (opened_link planned first) events new lines) → IsTransparent planned Down b down → Lacks lines (Differs Down down) → HasSomeDown planned first b down (end_events events (opened_link planned first) new lines run) new
 tm_silent_down planned first b down events new lines run is lacks =
     let are = down_channels planned b down is.good is.there is.channel in
-    let o = goes planned first 0 down (down_setting IsFound IsSublist planned 0 down honest are) events new lines run (any_fits planned Up 0 events (opened_link planned first) new lines run) (silent_honest planned Down down events (opened_link planned first) new lines run is.good (opened_fresh planned first).are are.down_is.there lacks) in
+    let o = goes planned first 0 down (down_setting IsSublist IsSublist planned 0 down honest are) events new lines run (any_fits planned Up 0 events (opened_link planned first) new lines run) (silent_honest planned Down down events (opened_link planned first) new lines run is.good (opened_fresh planned first).are are.down_is.there lacks) in
     record {
-      reached = record { nodes = nodes_of planned 0 down (down_setting IsFound IsSublist planned 0 down honest are) new o.stand; run = o.run; are = record { ue = refl; rnc = refl; ue_lines = refl; rnc_lines = refl } };
-      some = tm_down planned first first b down (end_events events (opened_link planned first) new lines run) (nodes_of planned 0 down (down_setting IsFound IsSublist planned 0 down honest are) new o.stand) (is_tm_bearer planned.config Down b down is.good is.there is.mode is.channel) o.run (phase_holds IsFound IsSublist (down_frames planned down) new.rnc.state.cfn (o.stand.dl down) (new.rnc.state.layer.given down).blocks honest o.stand.down_phase);
+      reached = record { nodes = nodes_of planned 0 down (down_setting IsSublist IsSublist planned 0 down honest are) new o.stand; run = o.run; are = record { ue = refl; rnc = refl; ue_lines = refl; rnc_lines = refl } };
+      some = tm_down planned first first b down (end_events events (opened_link planned first) new lines run) (nodes_of planned 0 down (down_setting IsSublist IsSublist planned 0 down honest are) new o.stand) (is_tm_bearer planned.config Down b down is.good is.there is.mode is.channel) o.run (phase_holds IsSublist IsSublist (down_frames planned down) new.rnc.state.cfn (o.stand.dl down) (new.rnc.state.layer.given down).blocks honest o.stand.down_phase);
     }
 
 pub tm_undamaged_up : (planned : Planned) (first b up : ℕ) (events : List Event) (new : LinkState) (lines : List Line) (run : Runs (opened_link planned first) events new lines) → IsTransparent planned Up b up → IsUndamagedOn planned Up up events (opened_link planned first) new lines run → HasTmUp planned b up new

@@ -13,9 +13,9 @@ use Rattle.dch_node.specs.Lines.{Differs, Line}
 use Rattle.dch_node.specs.Values.{no_output}
 use Rattle.dch_linkcmd.proofs.Steady.{starts-eighth}
 use Rattle.dch_linkcmd.specs.RncState.{State as RncState}
-use Rattle.dch_linkcmd.specs.Checks.{IsSublist as IsFound}
+use Rattle.dch_linkcmd.specs.Checks.{IsSublist}
 use Rattle.dch_linkcmd.specs.LinkLink.{LinkState, opened_link}
-use Rattle.dch_runlaw.specs.Worlds.{IsFront, IsSublist}
+use Rattle.dch_runlaw.specs.Worlds.{IsFront}
 use Rattle.dch_runlaw.proofs.Bearers.{is_am_bearer, is_tm_bearer, is_um_bearer}
 use Rattle.dch_runlaw.specs.Runs.{Event, Runs}
 use Rattle.dch_runlaw.specs.Parts.{GoesOver}
@@ -172,8 +172,8 @@ pub um_up_silent_over : (planned second : Planned) (first b up up_later : ℕ) (
 um_up_silent_over planned second first b up up_later before after start new xs ys o run is later lacks lacks_later =
     let are : AreChannels planned up 0 = up_channels planned b up is.good is.there is.channel in
     let on : AreChannels second up_later 0 = up_channels second b up_later later.good later.there later.channel in
-    let g : Setting planned up 0 = up_setting IsFound IsSublist planned up 0 honest are in
-    let h : Setting second up_later 0 = up_setting IsFound IsSublist second up_later 0 honest on in
+    let g : Setting planned up 0 = up_setting IsSublist IsSublist planned up 0 honest are in
+    let h : Setting second up_later 0 = up_setting IsSublist IsSublist second up_later 0 honest on in
     let one : List NodesEvent = end_events before (opened_link planned first) o.last xs o.run in
     let two : List NodesEvent = end_events after start new ys run in
     let w : WentOver planned second first up 0 up_later 0 g h o.last start new one two = goes_over planned second first up 0 up_later 0 g h before after start new xs ys o run
@@ -189,8 +189,8 @@ um_up_silent_over planned second first b up up_later before after start new xs y
         are = record { ue = refl; rnc = refl; ue_lines = refl; rnc_lines = refl };
       };
       known = um_up_two planned second first first b up up_later one two (nodes_of second up_later 0 h new w.behind.stand) (is_um_bearer planned.config Up b up is.good is.there is.mode is.channel) (is_um_bearer second.config Up b up_later later.good later.there later.mode later.channel) (in_two planned second first up 0 up_later 0 g h o.last start new one two w)
-          (phase_holds IsFound IsSublist (up_frames planned up) o.last.rnc.state.cfn (w.before.stand.ul up) (o.last.ue.state.layer.given up).blocks honest w.before.stand.up_phase)
-          (phase_holds IsFound IsSublist (up_frames second up_later) new.rnc.state.cfn (w.behind.stand.ul up_later) (new.ue.state.layer.given up_later).blocks honest w.behind.stand.up_phase);
+          (phase_holds IsSublist IsSublist (up_frames planned up) o.last.rnc.state.cfn (w.before.stand.ul up) (o.last.ue.state.layer.given up).blocks honest w.before.stand.up_phase)
+          (phase_holds IsSublist IsSublist (up_frames second up_later) new.rnc.state.cfn (w.behind.stand.ul up_later) (new.ue.state.layer.given up_later).blocks honest w.behind.stand.up_phase);
     }
 
 pub um_up_undamaged_over : (planned second : Planned) (first b up up_later : ℕ) (before after : List Event) (start new : LinkState) (xs ys : List Line) (o : GoesOver planned second first before xs start) (run : Runs start after new ys) → start.rnc.state.cfn % 8 ≡ 0 → IsUnacknowledged planned Up b up → IsUnacknowledged second Up b up_later
@@ -216,8 +216,8 @@ pub um_down_silent_over : (planned second : Planned) (first b down down_later : 
 um_down_silent_over planned second first b down down_later before after start new xs ys o run is later lacks lacks_later =
     let are : AreChannels planned 0 down = down_channels planned b down is.good is.there is.channel in
     let on : AreChannels second 0 down_later = down_channels second b down_later later.good later.there later.channel in
-    let g : Setting planned 0 down = down_setting IsFound IsSublist planned 0 down honest are in
-    let h : Setting second 0 down_later = down_setting IsFound IsSublist second 0 down_later honest on in
+    let g : Setting planned 0 down = down_setting IsSublist IsSublist planned 0 down honest are in
+    let h : Setting second 0 down_later = down_setting IsSublist IsSublist second 0 down_later honest on in
     let one : List NodesEvent = end_events before (opened_link planned first) o.last xs o.run in
     let two : List NodesEvent = end_events after start new ys run in
     let w : WentOver planned second first 0 down 0 down_later g h o.last start new one two = goes_over planned second first 0 down 0 down_later g h before after start new xs ys o run
@@ -233,8 +233,8 @@ um_down_silent_over planned second first b down down_later before after start ne
         are = record { ue = refl; rnc = refl; ue_lines = refl; rnc_lines = refl };
       };
       known = um_down_two planned second first first b down down_later one two (nodes_of second 0 down_later h new w.behind.stand) (is_um_bearer planned.config Down b down is.good is.there is.mode is.channel) (is_um_bearer second.config Down b down_later later.good later.there later.mode later.channel) (in_two planned second first 0 down 0 down_later g h o.last start new one two w)
-          (phase_holds IsFound IsSublist (down_frames planned down) o.last.rnc.state.cfn (w.before.stand.dl down) (o.last.rnc.state.layer.given down).blocks honest w.before.stand.down_phase)
-          (phase_holds IsFound IsSublist (down_frames second down_later) new.rnc.state.cfn (w.behind.stand.dl down_later) (new.rnc.state.layer.given down_later).blocks honest w.behind.stand.down_phase);
+          (phase_holds IsSublist IsSublist (down_frames planned down) o.last.rnc.state.cfn (w.before.stand.dl down) (o.last.rnc.state.layer.given down).blocks honest w.before.stand.down_phase)
+          (phase_holds IsSublist IsSublist (down_frames second down_later) new.rnc.state.cfn (w.behind.stand.dl down_later) (new.rnc.state.layer.given down_later).blocks honest w.behind.stand.down_phase);
     }
 
 pub um_down_undamaged_over : (planned second : Planned) (first b down down_later : ℕ) (before after : List Event) (start new : LinkState) (xs ys : List Line) (o : GoesOver planned second first before xs start) (run : Runs start after new ys) → start.rnc.state.cfn % 8 ≡ 0 → IsUnacknowledged planned Down b down → IsUnacknowledged second Down b down_later
@@ -261,8 +261,8 @@ pub tm_up_silent_over : (planned second : Planned) (first b up up_later : ℕ) (
 tm_up_silent_over planned second first b up up_later before after start new xs ys o run is later lacks lacks_later =
     let are : AreChannels planned up 0 = up_channels planned b up is.good is.there is.channel in
     let on : AreChannels second up_later 0 = up_channels second b up_later later.good later.there later.channel in
-    let g : Setting planned up 0 = up_setting IsFound IsSublist planned up 0 honest are in
-    let h : Setting second up_later 0 = up_setting IsFound IsSublist second up_later 0 honest on in
+    let g : Setting planned up 0 = up_setting IsSublist IsSublist planned up 0 honest are in
+    let h : Setting second up_later 0 = up_setting IsSublist IsSublist second up_later 0 honest on in
     let one : List NodesEvent = end_events before (opened_link planned first) o.last xs o.run in
     let two : List NodesEvent = end_events after start new ys run in
     let w : WentOver planned second first up 0 up_later 0 g h o.last start new one two = goes_over planned second first up 0 up_later 0 g h before after start new xs ys o run
@@ -278,8 +278,8 @@ tm_up_silent_over planned second first b up up_later before after start new xs y
         are = record { ue = refl; rnc = refl; ue_lines = refl; rnc_lines = refl };
       };
       some = tm_up_two planned second first first b up up_later one two (nodes_of second up_later 0 h new w.behind.stand) (is_tm_bearer planned.config Up b up is.good is.there is.mode is.channel) (is_tm_bearer second.config Up b up_later later.good later.there later.mode later.channel) (in_two planned second first up 0 up_later 0 g h o.last start new one two w)
-          (phase_holds IsFound IsSublist (up_frames planned up) o.last.rnc.state.cfn (w.before.stand.ul up) (o.last.ue.state.layer.given up).blocks honest w.before.stand.up_phase)
-          (phase_holds IsFound IsSublist (up_frames second up_later) new.rnc.state.cfn (w.behind.stand.ul up_later) (new.ue.state.layer.given up_later).blocks honest w.behind.stand.up_phase);
+          (phase_holds IsSublist IsSublist (up_frames planned up) o.last.rnc.state.cfn (w.before.stand.ul up) (o.last.ue.state.layer.given up).blocks honest w.before.stand.up_phase)
+          (phase_holds IsSublist IsSublist (up_frames second up_later) new.rnc.state.cfn (w.behind.stand.ul up_later) (new.ue.state.layer.given up_later).blocks honest w.behind.stand.up_phase);
     }
 
 pub tm_up_undamaged_over : (planned second : Planned) (first b up up_later : ℕ) (before after : List Event) (start new : LinkState) (xs ys : List Line) (o : GoesOver planned second first before xs start) (run : Runs start after new ys) → start.rnc.state.cfn % 8 ≡ 0 → IsTransparent planned Up b up → IsTransparent second Up b up_later
@@ -305,8 +305,8 @@ pub tm_down_silent_over : (planned second : Planned) (first b down down_later : 
 tm_down_silent_over planned second first b down down_later before after start new xs ys o run is later lacks lacks_later =
     let are : AreChannels planned 0 down = down_channels planned b down is.good is.there is.channel in
     let on : AreChannels second 0 down_later = down_channels second b down_later later.good later.there later.channel in
-    let g : Setting planned 0 down = down_setting IsFound IsSublist planned 0 down honest are in
-    let h : Setting second 0 down_later = down_setting IsFound IsSublist second 0 down_later honest on in
+    let g : Setting planned 0 down = down_setting IsSublist IsSublist planned 0 down honest are in
+    let h : Setting second 0 down_later = down_setting IsSublist IsSublist second 0 down_later honest on in
     let one : List NodesEvent = end_events before (opened_link planned first) o.last xs o.run in
     let two : List NodesEvent = end_events after start new ys run in
     let w : WentOver planned second first 0 down 0 down_later g h o.last start new one two = goes_over planned second first 0 down 0 down_later g h before after start new xs ys o run
@@ -322,8 +322,8 @@ tm_down_silent_over planned second first b down down_later before after start ne
         are = record { ue = refl; rnc = refl; ue_lines = refl; rnc_lines = refl };
       };
       some = tm_down_two planned second first first b down down_later one two (nodes_of second 0 down_later h new w.behind.stand) (is_tm_bearer planned.config Down b down is.good is.there is.mode is.channel) (is_tm_bearer second.config Down b down_later later.good later.there later.mode later.channel) (in_two planned second first 0 down 0 down_later g h o.last start new one two w)
-          (phase_holds IsFound IsSublist (down_frames planned down) o.last.rnc.state.cfn (w.before.stand.dl down) (o.last.rnc.state.layer.given down).blocks honest w.before.stand.down_phase)
-          (phase_holds IsFound IsSublist (down_frames second down_later) new.rnc.state.cfn (w.behind.stand.dl down_later) (new.rnc.state.layer.given down_later).blocks honest w.behind.stand.down_phase);
+          (phase_holds IsSublist IsSublist (down_frames planned down) o.last.rnc.state.cfn (w.before.stand.dl down) (o.last.rnc.state.layer.given down).blocks honest w.before.stand.down_phase)
+          (phase_holds IsSublist IsSublist (down_frames second down_later) new.rnc.state.cfn (w.behind.stand.dl down_later) (new.rnc.state.layer.given down_later).blocks honest w.behind.stand.down_phase);
     }
 
 pub tm_down_undamaged_over : (planned second : Planned) (first b down down_later : ℕ) (before after : List Event) (start new : LinkState) (xs ys : List Line) (o : GoesOver planned second first before xs start) (run : Runs start after new ys) → start.rnc.state.cfn % 8 ≡ 0 → IsTransparent planned Down b down → IsTransparent second Down b down_later

@@ -1,12 +1,12 @@
 -- What was given to a channel and taken of it, from radio frame to radio frame.
-use Rattle.std.proofs.Common.{◌≡◌, ◌+◌, ◌∙◌, ℕ, List, [], ◌∷◌, ◌++◌, true, false, cond, refl, sym, ap, subst, inl, inr, ⊎_elim}
+use Rattle.std.proofs.Common.{◌≡◌, ◌+◌, ◌∙◌, ℕ, List, [], ◌∷◌, ◌++◌, true, false, cond, refl, sym, ap, subst}
 use Rattle.std.specs.Prelude.{◌%◌, ◌==◌, ◌&&◌, nat_lt}
 use Rattle.std.proofs.lemmas.List.{append-nil}
 use Rattle.dch_bits.specs.declared.bit.Bit.{Bit}
 use Rattle.dch_types.specs.Timing.{ends, starts}
-use Rattle.dch_linkcmd.specs.Checks.{IsSublist as IsFound}
-use Rattle.dch_runlaw.specs.Worlds.{IsFront, IsSublist, Log}
-use Rattle.dch_runlaw.proofs.Sublists.{either, sub_more}
+use Rattle.dch_linkcmd.specs.Checks.{IsSublist}
+use Rattle.dch_runlaw.specs.Worlds.{IsFront, Log}
+use Rattle.dch_runlaw.proofs.Sublists.{either, sub_append, sub_more}
 
 -- what fits goes on to fit, and is as is wanted of a channel
 pub record Joins (P Q : List (List Bit) → List (List Bit) → Type 0) : Type 0 where
@@ -59,23 +59,8 @@ pub next_is : (frames cfn : ℕ) → ((n : ℕ) → (n % 256) % frames ≡ n % f
 next_is frames cfn divides = ap (λ n. nat_lt 0 frames && n == 0) (divides (cfn + 1))
 
 -- the two readings of "fits"
-found_drop : (xs : List (List Bit)) (y : List Bit) (ys : List (List Bit)) → IsFound xs ys → IsFound xs (y ∷ ys)
-found_drop [] y ys h = tt
-found_drop (x ∷ xs) y ys h = inr h
-
-found_join : (a b c d : List (List Bit)) → IsFound a b → IsFound c d → IsFound (a ++ c) (b ++ d)
-found_join [] [] c d h k = k
-found_join [] (y ∷ b) c d h k = found_drop c y (b ++ d) (found_join [] b c d tt k)
-found_join (x ∷ a) [] c d h k = absurd h
-found_join (x ∷ a) (y ∷ b) c d h k = ⊎_elim (λ (p : (x ≡ y) × IsFound a b). inl (p.0, found_join a b c d p.1 k)) (λ (p : IsFound (x ∷ a) b). inr (found_join (x ∷ a) b c d p k)) h
-
-found_same : (a b : List (List Bit)) → IsFound a b → IsSublist a b
-found_same [] b h = tt
-found_same (x ∷ a) [] h = absurd h
-found_same (x ∷ a) (y ∷ b) h = ⊎_elim (λ (p : (x ≡ y) × IsFound a b). inl (p.0, found_same a b p.1)) (λ (p : IsFound (x ∷ a) b). inr (found_same (x ∷ a) b p)) h
-
-pub honest : Joins IsFound IsSublist
-honest = record { none = tt; join = found_join; whole = found_same; more = λ a b c h. sub_more a b c (found_same a b h) }
+pub honest : Joins IsSublist IsSublist
+honest = record { none = tt; join = λ a b c d h k. sub_append a c b d h k; whole = λ a b h. h; more = sub_more }
 
 front_of : (a c : List (List Bit)) → IsFront a (a ++ c)
 front_of [] c = tt

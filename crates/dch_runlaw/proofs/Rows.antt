@@ -6,7 +6,7 @@ use Rattle.dch_types.specs.declared.channel.Dir.{Dir}
 use Rattle.dch_types.specs.declared.channel.Dir.TheVariants.{Up, Down}
 use Rattle.dch_script.specs.Report.{bits_shown, iub_text, octets_shown, pair_text, phy_text, place_text, unit_text}
 use Rattle.dch_node.specs.Lines.{Line, Took, Full, Wrong, Bad, Reserved, NoBearer, Nobody, PduBad, Outside, Overlong, Got, GotBits, Iub, IubBad, Phy, PhyNone, BadTti, Differs}
-use Rattle.dch_runlaw.specs.Directions.{same_dir}
+use Rattle.dch_damage.specs.Damage.{same_dir}
 use Rattle.dch_runlaw.specs.Rows.{AreSmall, IsSmall, got_rows, got_words, gots, is_got, row_of, rows_of, starts_with}
 use Rattle.dch_runlaw.proofs.Names.{number_same, other_number, same_number}
 use Rattle.dch_runlaw.proofs.Sublists.{either}

@@ -16,11 +16,12 @@ use Rattle.dch_layer2.specs.Layers.{blocks, offers}
 use Rattle.dch_node.specs.Lines.{Line}
 use Rattle.dch_layer2.specs.UnitLines.{unit_lines}
 use Rattle.dch_layer2.specs.Starting.{IsStart, asked_in, count_on}
+use Rattle.dch_linkcmd.specs.Checks.{IsSublist}
 use Rattle.dch_runlaw.specs.Doings.{Blocks, Offers, Says, Starts, Ticks, given_by}
 use Rattle.dch_runlaw.specs.Calls.{calls_in, for_each, own_blocks, own_on}
 use Rattle.dch_runlaw.specs.History.{ArePair, IsAmBearer, IsEndOf, calls_of, is_mine}
 use Rattle.dch_runlaw.specs.Lines.{lines_of}
-use Rattle.dch_runlaw.specs.Worlds.{DoesNear, IsSublist, Log, World}
+use Rattle.dch_runlaw.specs.Worlds.{DoesNear, Log, World}
 use Rattle.dch_runlaw.proofs.Catching.{Wires, pair_of}
 use Rattle.dch_runlaw.proofs.Giving.{Gave, all_given, wires-append}
 use Rattle.dch_runlaw.proofs.Names.{number_same}

@@ -3,7 +3,8 @@ use Rattle.std.proofs.Common.{◌≡◌, List, [], ◌∷◌, ◌++◌, Bool, tr
 use Rattle.std.specs.Prelude.{filter}
 use Rattle.dch_bits.specs.declared.bit.Bit.{Bit}
 use Rattle.dch_bits.specs.declared.bit.Bit.TheVariants.{Zero, One}
-use Rattle.dch_runlaw.specs.Worlds.{IsFront, IsSublist}
+use Rattle.dch_linkcmd.specs.Checks.{IsSublist}
+use Rattle.dch_runlaw.specs.Worlds.{IsFront}
 
 abbrev same_bit : Bit → Bit → Bool
 same_bit Zero Zero = true
@@ -53,6 +54,16 @@ sub_drop (x ∷ xs) y ys h = inr h
 pub sub_tail : (x : List Bit) (xs ys : List (List Bit)) → IsSublist (x ∷ xs) ys → IsSublist xs ys
 sub_tail x xs [] h = absurd h
 sub_tail x xs (y ∷ ys) h = ⊎_elim (λ (p : (x ≡ y) × IsSublist xs ys). sub_drop xs y ys p.1) (λ (p : IsSublist (x ∷ xs) ys). sub_drop xs y ys (sub_tail x xs ys p)) h
+
+sub_above : (ys us vs : List (List Bit)) → IsSublist ys vs → IsSublist ys (us ++ vs)
+sub_above [] us vs k = tt
+sub_above (y ∷ ys) [] vs k = k
+sub_above (y ∷ ys) (u ∷ us) vs k = inr (sub_above (y ∷ ys) us vs k)
+
+pub sub_append : (xs ys us vs : List (List Bit)) → IsSublist xs us → IsSublist ys vs → IsSublist (xs ++ ys) (us ++ vs)
+sub_append [] ys us vs h k = sub_above ys us vs k
+sub_append (x ∷ xs) ys [] vs h k = absurd h
+sub_append (x ∷ xs) ys (u ∷ us) vs h k = ⊎_elim (λ (p : (x ≡ u) × IsSublist xs us). inl (p.0, sub_append xs ys us vs p.1 k)) (λ (p : IsSublist (x ∷ xs) us). inr (sub_append (x ∷ xs) ys us vs p k)) h
 
 -- a Bool is one of the two
 pub either : {A : Type 0} (b : Bool) → (b ≡ true → A) → (b ≡ false → A) → A

@@ -5,8 +5,8 @@ use Rattle.dch_types.specs.declared.channel.Dir.{Dir}
 use Rattle.dch_types.specs.declared.channel.Dir.TheVariants.{Up, Down}
 use Rattle.dch_script.specs.Report.{iub_text, pair_text, phy_text, place_text, unit_text}
 use Rattle.dch_node.specs.Lines.{Line, Took, Full, Wrong, Bad, Reserved, NoBearer, Nobody, PduBad, Outside, Overlong, Got, GotBits, Iub, IubBad, Phy, PhyNone, BadTti, Differs}
+use Rattle.dch_damage.specs.Damage.{same_dir}
 use Rattle.dch_runlaw.specs.TextDiffering.{AreLow, IsLow, false_rows, false_words, falses, is_false}
-use Rattle.dch_runlaw.specs.Directions.{same_dir}
 use Rattle.dch_runlaw.specs.Rows.{row_of, rows_of, starts_with}
 use Rattle.dch_runlaw.proofs.TextNumbers.{decimal_ends}
 use Rattle.dch_runlaw.proofs.Sublists.{either}

@@ -4,7 +4,7 @@ use Rattle.std.specs.Prelude.{◌==◌}
 use Rattle.dch_types.specs.declared.channel.Dir.{Dir}
 use Rattle.dch_types.specs.declared.channel.Dir.TheVariants.{Up, Down}
 use Rattle.dch_node.specs.Lines.{Line, Took, Full, Wrong, Bad, Reserved, NoBearer, Nobody, PduBad, Outside, Overlong, Got, GotBits, Iub, IubBad, Phy, PhyNone, BadTti, Differs}
-use Rattle.dch_runlaw.specs.Directions.{same_dir}
+use Rattle.dch_damage.specs.Damage.{same_dir}
 use Rattle.dch_runlaw.specs.Rows.{row_of, rows_of, starts_with}
 use Rattle.dch_runlaw.proofs.Names.{both_true, number_same, same_number}
 use Rattle.dch_runlaw.proofs.Sublists.{either}

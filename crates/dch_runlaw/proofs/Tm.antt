@@ -20,16 +20,17 @@ use Rattle.dch_layer2.specs.Layers.{Came, Layer, Outcome, goes, takes, takes_one
 use Rattle.dch_node.specs.Lines.{GotBits, Line}
 use Rattle.dch_layer2.specs.Starting.{IsStart, asked_in, count_on}
 use Rattle.dch_layer2.proofs.Octets.{behind_field}
+use Rattle.dch_linkcmd.specs.Checks.{IsSublist}
 use Rattle.dch_runlaw.specs.Doings.{Blocks, Does, Doing, Offers, Says, Starts, Takes, Ticks, block_if, given_by, good_blocks, has_bits, taken_by}
 use Rattle.dch_runlaw.specs.History.{AreApart, is_mine, is_to}
 use Rattle.dch_runlaw.specs.Lines.{lines_of}
 use Rattle.dch_runlaw.specs.TmHistory.{IsTmCarried, IsTmHistory, IsTmSome, bits_lines, unit_in, units_in}
-use Rattle.dch_runlaw.specs.Worlds.{IsFaithful, IsSublist, Log, World}
+use Rattle.dch_runlaw.specs.Worlds.{IsFaithful, Log, World}
 use Rattle.dch_runlaw.proofs.OwnBlocks.{taken_mine}
 use Rattle.dch_runlaw.proofs.Steps.{answer_line}
 use Rattle.dch_runlaw.proofs.Turns.{start_mine}
 use Rattle.dch_runlaw.proofs.Names.{number_same, other_number, receiver_has, receiver_skips, same_number}
-use Rattle.dch_runlaw.proofs.Sublists.{either, sub_filter, sub_more}
+use Rattle.dch_runlaw.proofs.Sublists.{either, sub_append, sub_filter, sub_more}
 use Rattle.dch_runlaw.proofs.BlocksTaken.{lines-append, other_hears}
 
 -- lists of units
@@ -182,16 +183,6 @@ sub_map f (x ∷ xs) (y ∷ ys) h = ⊎_elim (λ (p : (x ≡ y) × IsSublist xs 
 pub sub_units : (config : Config) (out : Dir) (b i : ℕ) (log : Log) → IsFaithful log → IsSublist (units_in config out b i log.taken) (units_in config out b i log.given)
 sub_units config out b i log faithful = sub_map (unit_in config out b) (filter (is_mine config out b i) log.taken) (filter (is_mine config out b i) log.given) (sub_filter (is_mine config out b i) log.taken log.given faithful)
 
-sub_above : (ys us vs : List (List Bit)) → IsSublist ys vs → IsSublist ys (us ++ vs)
-sub_above [] us vs k = tt
-sub_above (y ∷ ys) [] vs k = k
-sub_above (y ∷ ys) (u ∷ us) vs k = inr (sub_above (y ∷ ys) us vs k)
-
-sub-append : (xs ys us vs : List (List Bit)) → IsSublist xs us → IsSublist ys vs → IsSublist (xs ++ ys) (us ++ vs)
-sub-append [] ys us vs h k = sub_above ys us vs k
-sub-append (x ∷ xs) ys [] vs h k = absurd h
-sub-append (x ∷ xs) ys (u ∷ us) vs h k = ⊎_elim (λ (p : (x ≡ u) × IsSublist xs us). inl (p.0, sub-append xs ys us vs p.1 k)) (λ (p : IsSublist (x ∷ xs) us). inr (sub-append (x ∷ xs) ys us vs p k)) h
-
 pub tm_some : (config : Config) (out : Dir) (b i : ℕ) (g t : List (List Bit)) (w : World) → IsTmHistory config out b i g t w → IsSublist t g → IsFaithful (w.out i) → IsTmSome config out b i g t w
 tm_some config out b i g t w h before faithful =
     let came = t ++ units_in config out b i (w.out i).taken in
@@ -201,7 +192,7 @@ tm_some config out b i g t w h before faithful =
       handed = came;
       came = refl;
       lines = h.far.lines;
-      some = subst (λ l. IsSublist came l) (sym h.near.given) (sub_more came sent h.near.waiting.units (sub-append t (units_in config out b i (w.out i).taken) g (units_in config out b i (w.out i).given) before (sub_units config out b i (w.out i) faithful)));
+      some = subst (λ l. IsSublist came l) (sym h.near.given) (sub_more came sent h.near.waiting.units (sub_append t (units_in config out b i (w.out i).taken) g (units_in config out b i (w.out i).given) before (sub_units config out b i (w.out i) faithful)));
     }
 
 pub tm_all_came : (config : Config) (out : Dir) (b i : ℕ) (g t : List (List Bit)) (w : World) (running : List (List Bit)) → IsTmHistory config out b i g t w → g ≡ t → (w.out i).given ≡ (w.out i).taken ++ running → IsTmCarried config out b i w.near.layer w.far.said running

@@ -12,9 +12,10 @@ use Rattle.dch_rlcum.specs.History.{joined, sizes, text_of, texts_from}
 use Rattle.dch_rlcum.specs.Receiving.{Receiving, after_pdu, opened as opened_receiving}
 use Rattle.dch_rlcum.proofs.Handed.{known_handed, pdus_read}
 use Rattle.dch_layer2.specs.UnitLines.{unit_lines}
+use Rattle.dch_linkcmd.specs.Checks.{IsSublist}
 use Rattle.dch_runlaw.specs.History.{is_mine}
 use Rattle.dch_runlaw.specs.UmHistory.{IsKnownHistory, IsUmHistory, arriving, lines_all, lines_one, pdu_in, pdus_in, receives_one}
-use Rattle.dch_runlaw.specs.Worlds.{IsFaithful, IsSublist, Log, World}
+use Rattle.dch_runlaw.specs.Worlds.{IsFaithful, Log, World}
 use Rattle.dch_runlaw.proofs.Names.{other_number, same_number}
 use Rattle.dch_runlaw.proofs.Sublists.{sub_filter}
 use Rattle.dch_runlaw.proofs.BlocksTaken.{units-append}

@@ -1,15 +1,8 @@
 -- The direction in which the units and PDUs of lines travelled.
-use Rattle.std.specs.Prelude.{◌&&◌, ◌==◌, ℕ, List, [], ◌∷◌, Bool, true, false, if◌then◌else◌}
+use Rattle.std.specs.Prelude.{◌&&◌, ◌==◌, ℕ, List, [], ◌∷◌, Bool, false, if◌then◌else◌}
 use Rattle.dch_types.specs.declared.channel.Dir.{Dir}
-use Rattle.dch_types.specs.declared.channel.Dir.TheVariants.{Up, Down}
+use Rattle.dch_damage.specs.Damage.{same_dir}
 use Rattle.dch_node.specs.Lines.{Line, Took, Full, Wrong, Bad, Reserved, NoBearer, Nobody, PduBad, Outside, Overlong, Got, GotBits, Iub, IubBad, Phy, PhyNone, BadTti, Differs}
-
--- two directions are one
-abbrev pub same_dir : Dir → Dir → Bool
-same_dir Up Up = true
-same_dir Up Down = false
-same_dir Down Up = false
-same_dir Down Down = true
 
 -- a line on a PDU or unit of bearer b that travelled in a direction
 abbrev pub is_on : Dir → ℕ → Line → Bool

@@ -4,7 +4,7 @@ use Rattle.dch_types.specs.declared.channel.Dir.{Dir}
 use Rattle.dch_script.specs.Report.{place_text}
 use Rattle.dch_node.specs.Lines.{Line, Took, Full, Wrong, Bad, Reserved, NoBearer, Nobody, PduBad, Outside, Overlong, Got, GotBits, Iub, IubBad, Phy, PhyNone, BadTti, Differs}
 pub use Rattle.dch_lines.specs.TextRows.{row_of, rows_of}
-use Rattle.dch_runlaw.specs.Directions.{same_dir}
+use Rattle.dch_damage.specs.Damage.{same_dir}
 
 -- a text begins with another
 abbrev pub starts_with : List ℕ → List ℕ → Bool

@@ -3,7 +3,7 @@ use Rattle.std.specs.Prelude.{◌<◌, ◌^◌, ◌++◌, ◌&&◌, ◌==◌, �
 use Rattle.dch_types.specs.declared.channel.Dir.{Dir}
 use Rattle.dch_script.specs.Report.{place_text}
 use Rattle.dch_node.specs.Lines.{Line, Took, Full, Wrong, Bad, Reserved, NoBearer, Nobody, PduBad, Outside, Overlong, Got, GotBits, Iub, IubBad, Phy, PhyNone, BadTti, Differs}
-use Rattle.dch_runlaw.specs.Directions.{same_dir}
+use Rattle.dch_damage.specs.Damage.{same_dir}
 use Rattle.dch_runlaw.specs.Rows.{starts_with}
 
 -- the row `false up I` or `false down I` with its line feed, and the rows that begin so, which are such rows

@@ -10,9 +10,10 @@ use Rattle.dch_rlctm.specs.Waiting.{Waiting}
 use Rattle.dch_layer2.specs.Bearings.{Transparent, bearer_in, channel_of, ct_of}
 use Rattle.dch_layer2.specs.Layers.{Layer}
 use Rattle.dch_node.specs.Lines.{GotBits, Line}
+use Rattle.dch_linkcmd.specs.Checks.{IsSublist}
 use Rattle.dch_runlaw.specs.History.{AreApart, is_mine}
 use Rattle.dch_runlaw.specs.Lines.{lines_of}
-use Rattle.dch_runlaw.specs.Worlds.{IsSublist, Log, Side, World}
+use Rattle.dch_runlaw.specs.Worlds.{Log, Side, World}
 
 -- the lines on transparent units
 abbrev pub bits_lines : Dir → ℕ → List (List Bit) → List Line

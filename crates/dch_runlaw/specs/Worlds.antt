@@ -1,11 +1,12 @@
 -- Two ends, and what went over their channels: the blocks that were given to each channel, and those that were taken of
 -- it as good.
-use Rattle.std.specs.Prelude.{◌≡◌, ◌++◌, ◌⊎◌, ℕ, List, [], ◌∷◌}
+use Rattle.std.specs.Prelude.{◌≡◌, ◌++◌, ℕ, List, [], ◌∷◌}
 use Rattle.dch_bits.specs.declared.bit.Bit.{Bit}
 use Rattle.dch_types.specs.declared.channel.Dir.{Dir}
 use Rattle.dch_types.specs.declared.config.Config.{Config}
 use Rattle.dch_node.specs.Lines.{Line}
 use Rattle.dch_layer2.specs.Layers.{Layer, changed_layer, opened_layer}
+use Rattle.dch_linkcmd.specs.Checks.{IsSublist}
 use Rattle.dch_runlaw.specs.Doings.{Doing, Does, given_by, taken_by}
 
 -- what went over a channel: the blocks that were given to it, and those that were taken of it as good. Blocks without
@@ -98,12 +99,6 @@ abbrev pub Runs : Config → Dir → Dir → (World → Type 0) → World → Li
 Runs config out into Holds old [] new = new ≡ old
 Runs config out into Holds old (event ∷ events) new =
     HappensFirst config out into Holds (λ next. Runs config out into Holds next events new) old event
-
--- some of these, in their order
-abbrev pub IsSublist : List (List Bit) → List (List Bit) → Type 0
-IsSublist [] ys = Unit {0}
-IsSublist (x ∷ xs) [] = ⊥
-IsSublist (x ∷ xs) (y ∷ ys) = ((x ≡ y) × IsSublist xs ys) ⊎ IsSublist (x ∷ xs) ys
 
 -- these begin it
 abbrev pub IsFront : List (List Bit) → List (List Bit) → Type 0
