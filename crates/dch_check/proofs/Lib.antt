@@ -3,6 +3,7 @@ pub mod ConfigSections
 pub mod FrameWords
 pub mod Judgements
 pub mod LineCuts
+pub mod Outcomes
 pub mod Seconds
 pub mod Singles
 pub mod Taking

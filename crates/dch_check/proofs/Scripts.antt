@@ -14,14 +14,16 @@ use Rattle.dch_check.specs.TakenConfigs.{IsComplete, IsEnded, IsTakenConfig, Tak
 use Rattle.dch_check.specs.declared.taken_config.ConfigFault.{ConfigFault}
 use Rattle.dch_check.specs.declared.taken_config.ConfigFault.TheVariants as fault
 use Rattle.dch_check.proofs.ConfigSections.{complete_more, configuration_more}
+use Rattle.dch_check.proofs.Outcomes.{only_well}
 use Rattle.dch_check.proofs.Taking.{script_more, script_none}
 use Rattle.dch_check.specs.declared.taken_config.TakenConfig.{TakenConfig}
+use Rattle.dch_lines.proofs.Complete.{never_lacks}
 use Rattle.dch_lines.specs.Followed.{AnswersTaken, FollowsInput, IsRefused}
 use Rattle.dch_lines.specs.Processor.{LeadsOn, Progress, standing}
 use Rattle.dch_lines.specs.Semantics.{Semantics}
 use Rattle.dch_lines.specs.declared.stop.Outcome.{Outcome}
 use Rattle.dch_lines.specs.declared.stop.Outcome.TheVariants.{Ok as Done, Refused as MetMalformed, ReadFault as FailedReading, WriteFault as FailedWriting, NoMemory as Lacking, TooLong as TookTooMuch}
-use Rattle.dch_check.specs.Configured.{FollowsBehind, FollowsRest, FollowsScript, IsConfigured, ArePlannedAs, RunsConfigured, EndsUnopened, StopsBehind, fault_status, opened_begin, outcome_status, script_begin}
+use Rattle.dch_check.specs.Configured.{FollowsBehind, FollowsRest, FollowsScript, IsConfigured, ArePlannedAs, RunsConfigured, EndsUnopened, StopsBehind, WantsNone, fault_status, opened_begin, outcome_status, script_begin}
 use Rattle.dch_check.specs.Untouched.{IsUntouched}
 use Rattle.dch_check.specs.declared.status.Status.{Status}
 use Rattle.dch_check.specs.declared.status.Status.TheVariants.{Ok as Well, NoMemory}
@@ -55,12 +57,24 @@ pub ends_well : {S C : Type 0} (semantics : Semantics S) (represents : S → C �
 ends_well semantics represents source sink front old new handler state bytes lines part result is counted before leads stands done =
     led_on semantics represents source sink front old new handler state bytes lines part result Done is counted before leads stands done
 
-pub ends_ill : {S C : Type 0} (semantics : Semantics S) (represents : S → C → Type 0) (source sink : End) (front : TakenConfig) (old new : Progress C) (handler : C) (state : S) (bytes lines : ℕ) (part : List ℕ) (result outcome : Outcome) → IsOpened old handler bytes lines
-    → bytes ≡ front.read - (front.pending.to - front.pending.from) → lines ≡ lines_before front → Followed semantics represents source sink front old new part result → represents state handler → result ≡ outcome → outcome ≢ Lacking → outcome ≢ Done
-    → StopsBehind semantics source sink front state part (outcome_status outcome)
-ends_ill semantics represents source sink front old new handler state bytes lines part result outcome is counted before leads stands same enough ill =
-    let led = led_on semantics represents source sink front old new handler state bytes lines part result outcome is counted before leads stands same in
-    record { after = led.0; outcome = outcome; follows = led.1.1; same = refl; enough = enough; ill = ill }
+-- no line that is followed wants memory
+lacks_none : {S : Type 0} (semantics : Semantics S) → WantsNone semantics → (at_end : Bool) (source sink : End) (old : Progress S) (after : S) (part : List ℕ) → FollowsRest semantics at_end source sink old after part Lacking → ⊥
+lacks_none semantics none true source sink old after part f = never_lacks semantics (span (Some []) f.now 0 0) sink old after part none f.follows
+lacks_none semantics none false source sink old after part f = never_lacks semantics source sink old after part none f
+
+pub ends_ill : {S C : Type 0} (semantics : Semantics S) (represents : S → C → Type 0) (source sink : End) (front : TakenConfig) (old new : Progress C) (handler : C) (state : S) (bytes lines : ℕ) (part : List ℕ) (result : Outcome) (status : Status) → IsOpened old handler bytes lines
+    → bytes ≡ front.read - (front.pending.to - front.pending.from) → lines ≡ lines_before front → Followed semantics represents source sink front old new part result → represents state handler → WantsNone semantics → status ≡ outcome_status result → status ≢ Well
+    → StopsBehind semantics source sink front state part status
+ends_ill semantics represents source sink front old new handler state bytes lines part result status is counted before leads stands none same ill =
+    let led = led_on semantics represents source sink front old new handler state bytes lines part result result is counted before leads stands refl in
+    record {
+      after = led.0;
+      outcome = result;
+      follows = led.1.1;
+      same = same;
+      enough = λ lacks. lacks_none semantics none front.pending.at_end source sink (opened_begin front state) led.0 part (subst (λ o. FollowsBehind semantics source sink front state led.0 part o) lacks led.1.1);
+      ill = λ done. ill (same ∙ ap outcome_status done);
+    }
 
 -- a fault before the configuration was whole
 pub ends_unopened : {kind : FrontKind} (a b k : Option (List ℕ)) (f g h : ℕ) (room : List ℕ) (fault : ConfigFault) → TakesConfig (span a b f g) room (Err fault) → EndsUnopened kind (span a b f g) (span k k h h) (fault_status fault)
@@ -247,15 +261,6 @@ lacks_before_opening a b c k l f g h i j room front is still = record {
   answers = (record { within = is.within; soon = is.soon }, refl);
 }
 
--- only one outcome is well
-ill_status : (outcome : Outcome) → outcome ≢ Done → outcome_status outcome ≡ Well → ⊥
-ill_status Done ill well = ill refl
-ill_status MetMalformed ill well = cc
-ill_status FailedReading ill well = cc
-ill_status FailedWriting ill well = cc
-ill_status Lacking ill well = cc
-ill_status TookTooMuch ill well = cc
-
 -- the lines behind an accepted configuration ended the run, and not well
 pub runs_ill : {S : Type 0} {kind : FrontKind} (semantics : Semantics S) (opened : Configurations → S) (a b c k l : Option (List ℕ)) (f g h i j : ℕ) (room : List ℕ) (front : TakenConfig) (accepted : Configurations) (status : Status) → IsTakenConfig (span a b f g) room front → ArePlannedAs kind (settled front.section) accepted
     → ((status ≡ NoMemory) × IsUntouched (span b c g h) (span k l i j)) ⊎ StopsBehind semantics (span b c g h) (span k l i j) front (opened accepted) (slice_range room front.pending.from front.pending.to) status
@@ -268,7 +273,7 @@ runs_ill {S} {kind} semantics opened a b c k l f g h i j room front accepted sta
         (runs_unopened semantics opened (λ after. Unit {0}) (span a c f h) (span k l i j) status not, not_well (span a c f h) (span k l i j) status not)
 
     some : StopsBehind semantics (span b c g h) (span k l i j) front (opened accepted) (slice_range room front.pending.from front.pending.to) status → RunsConfigured kind semantics opened (λ after. Unit {0}) (span a c f h) (span k l i j) status × (status ≢ Well)
-    some stop = (rw stop.same (runs_opened semantics opened (λ after. Unit {0}) a b c k l f g h i j room front accepted stop.after stop.outcome is good stop.follows stop.enough tt), λ well. ill_status stop.outcome stop.ill (sym stop.same ∙ well))
+    some stop = (rw stop.same (runs_opened semantics opened (λ after. Unit {0}) a b c k l f g h i j room front accepted stop.after stop.outcome is good stop.follows stop.enough tt), λ well. stop.ill (only_well stop.outcome (sym well ∙ stop.same)))
 
 -- what holds where the sink was left as it was before
 sink_from : (P : End → Type 0) (k m l : Option (List ℕ)) (i n j : ℕ) → m ≡ k → n ≡ i → P (span m l n j) → P (span k l i j)

@@ -73,13 +73,10 @@ pub fn follow_script<C: LineHandler + Drop, S: Source, K: Sink>(
     else {
         return Err(Status::NoMemory);
     };
-    match follow_rest(source, sink, piece, front.pending, &mut processor) {
-        Outcome::Ok => Ok(processor.into_handler()),
-        Outcome::Refused => Err(Status::Refused),
-        Outcome::ReadFault => Err(Status::ReadFault),
-        Outcome::WriteFault => Err(Status::WriteFault),
-        Outcome::NoMemory => Err(Status::NoMemory),
-        Outcome::TooLong => Err(Status::TooLong),
+    let outcome = follow_rest(source, sink, piece, front.pending, &mut processor);
+    match Status::of(outcome) {
+        Status::Ok => Ok(processor.into_handler()),
+        status => Err(status),
     }
 }
 

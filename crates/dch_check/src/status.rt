@@ -1,7 +1,8 @@
 ghost use Rattle.std.specs.Prelude.{◌≡◌};
-ghost use Rattle.dch_check.specs.Configured.{fault_status};
+ghost use Rattle.dch_check.specs.Configured.{fault_status, outcome_status};
 
 use crate::taken_config::ConfigFault;
+use dch_lines::Outcome;
 
 /// How a run ended. The number of a status is its place in this list, from 0.
 #[derive(Clone, Copy, Debug, PartialEq, Eq)]
@@ -34,6 +35,20 @@ impl Status {
         ensures too_long { self ≡ Status.TooLong → result ≡ 6 }
     {
         self as u8
+    }
+
+    /// The status of a run whose lines were followed to this outcome.
+    pub fn of(outcome: Outcome) -> Status
+        ensures { result ≡ outcome_status outcome }
+    {
+        match outcome {
+            Outcome::Ok => Status::Ok,
+            Outcome::Refused => Status::Refused,
+            Outcome::ReadFault => Status::ReadFault,
+            Outcome::WriteFault => Status::WriteFault,
+            Outcome::NoMemory => Status::NoMemory,
+            Outcome::TooLong => Status::TooLong,
+        }
     }
 }
 

@@ -9,7 +9,6 @@ pub mod BadFrames
 pub mod Configurations
 pub mod Fronts
 pub mod NodeRuns
-pub mod Outcomes
 pub mod PairComplete
 pub mod SoftRuns
 pub mod LedRows

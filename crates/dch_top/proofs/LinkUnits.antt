@@ -18,7 +18,7 @@ use Rattle.dch_top.specs.declared.arguments.Arguments.{Arguments}
 use Rattle.dch_top.specs.declared.arguments.Subcommand.{Subcommand}
 use Rattle.dch_top.specs.declared.arguments.Subcommand.TheVariants.{Link}
 use Rattle.dch_top.proofs.Fronts.{second_follows}
-use Rattle.dch_top.proofs.Outcomes.{only_well}
+use Rattle.dch_check.proofs.Outcomes.{only_well}
 use Rattle.dch_top.specs.Benches.{Nodes}
 use Rattle.dch_check.specs.Configured.{EndsLate, FollowsScript}
 use Rattle.dch_top.specs.LinkRuns.{RunsLink, run_of}

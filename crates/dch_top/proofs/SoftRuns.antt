@@ -13,7 +13,7 @@ use Rattle.dch_top.specs.SoftRuns.{HoldsLegs, HoldsSoft, RunsSoft, run_of}
 use Rattle.dch_check.specs.declared.status.Status.{Status}
 use Rattle.dch_check.specs.declared.status.Status.TheVariants.{Ok as Well, Refused, Usage, ReadFault, WriteFault, NoMemory, TooLong}
 use Rattle.dch_check.specs.declared.front.FrontKind.TheVariants.{Single}
-use Rattle.dch_top.proofs.Outcomes.{only_well}
+use Rattle.dch_check.proofs.Outcomes.{only_well}
 use Rattle.dch_top.proofs.SoftStays.{soft_lines_stay}
 
 -- there are as many legs afterwards as at opening

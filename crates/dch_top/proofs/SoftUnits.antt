@@ -40,7 +40,7 @@ use Rattle.dch_top.specs.SoftRuns.{RunsSoft}
 use Rattle.dch_top.specs.SoftUnits.{CarriesHandover, CarriesSoft, HandsUpRows, ShowsUnits}
 use Rattle.dch_check.specs.declared.status.Status.TheVariants.{Ok as Well}
 use Rattle.dch_check.specs.declared.front.FrontKind.TheVariants.{Single}
-use Rattle.dch_top.proofs.Outcomes.{only_well}
+use Rattle.dch_check.proofs.Outcomes.{only_well}
 use Rattle.dch_top.proofs.SoftRows.{run_rows}
 
 -- units that are not too long

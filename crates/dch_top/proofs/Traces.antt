@@ -18,7 +18,7 @@ use Rattle.dch_check.specs.Configured.{EndsLate, FollowsScript, ArePlannedAs}
 use Rattle.dch_top.specs.NodeRuns.{RunsNode, run_of}
 use Rattle.dch_check.specs.declared.status.Status.TheVariants.{Ok as Well}
 use Rattle.dch_check.specs.declared.front.FrontKind.TheVariants.{Both}
-use Rattle.dch_top.proofs.Outcomes.{only_well}
+use Rattle.dch_check.proofs.Outcomes.{only_well}
 use Rattle.dch_top.specs.Traces.{Answers, HasLine, IsAnswer, LeavesNoTrace}
 
 -- a run that went well wrote the answer to what it took

@@ -1,6 +1,5 @@
 ghost use Rattle.std.specs.Prelude.{◌≡◌};
 ghost use Rattle.dch_io.specs.Ends.{end_of};
-ghost use Rattle.dch_check.specs.Configured.{outcome_status};
 ghost use Rattle.dch_top.specs.Encoded.{Encodes};
 ghost use Rattle.dch_top.specs.LineRuns.{RunsLines};
 ghost use Rattle.dch_top.specs.PairRuns.{RunsPair};
@@ -9,7 +8,7 @@ use crate::encode_handler::EncodeHandler;
 use dch_bits::NoMemory;
 use dch_check::Status;
 use dch_io::{InputOffset, Pending, Sink, Source, new_piece};
-use dch_lines::{LineHandler, LineProcessor, Outcome, follow_input};
+use dch_lines::{LineHandler, LineProcessor, follow_input};
 use dch_paircmd::PairHandler;
 use std::alloc::Global;
 
@@ -64,18 +63,5 @@ fn run_lines<H: LineHandler + Drop, S: Source, K: Sink>(
         to: 0,
         at_end: false,
     };
-    status_of(follow_input(source, sink, &mut piece, nothing, &mut processor))
-}
-
-fn status_of(outcome: Outcome) -> Status
-    ensures { result ≡ outcome_status outcome }
-{
-    match outcome {
-        Outcome::Ok => Status::Ok,
-        Outcome::Refused => Status::Refused,
-        Outcome::ReadFault => Status::ReadFault,
-        Outcome::WriteFault => Status::WriteFault,
-        Outcome::NoMemory => Status::NoMemory,
-        Outcome::TooLong => Status::TooLong,
-    }
+    Status::of(follow_input(source, sink, &mut piece, nothing, &mut processor))
 }
