@@ -1,7 +1,8 @@
-// Loaded before the C library, it makes one call of a program fail, or be short; .ci/hostile builds and uses it. FAULT names the call: alloc, read or write is
-// the one of number AT alone, allocs, reads and writes that one and all behind it; with short before the name the call moves one byte in place of failing. BYTES is
-// the most bytes that a read or a write moves. The file that SEEN names gets the counts of allocations, reads and writes.
-// What it takes of the C library and of Linux on x86-64 is declared here, so that a compiler without their headers builds it too.
+// Loaded before the C library, it makes one call of a program fail, or be short; .ci/hostile builds and uses it. FAULT
+// names the call: alloc, read or write is the one of number AT alone, allocs, reads and writes that one and all behind
+// it; with short before the name the call moves one byte in place of failing. BYTES is the most bytes that a read or a
+// write moves. The file that SEEN names gets the counts of allocations, reads and writes. What it takes of the C
+// library and of Linux on x86-64 is declared here, so that a compiler without their headers builds it too.
 typedef unsigned long size_t;
 typedef long ssize_t;
 int snprintf(char *, size_t, const char *, ...), strncmp(const char *, const char *, size_t), *__errno_location(void);

@@ -1,5 +1,6 @@
-/* The search for the nearest code block by libfec (Debian: libfec-dev), whose two Viterbi decoders of constraint length 9 have the generators of TS 25.212.
- * It takes symbols of eight bits, and of several nearest blocks it may find another one. Its rows are those of peers.c. */
+/* The search for the nearest code block by libfec (Debian: libfec-dev), whose two Viterbi decoders of constraint length
+ * 9 have the generators of TS 25.212. It takes symbols of eight bits, and of several nearest blocks it may find another
+ * one. Its rows are as in peers.c. */
 #include <fec.h>
 #include "work.h"
 

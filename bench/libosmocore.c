@@ -1,4 +1,5 @@
-/* The coder, the search for the nearest code block and the parity bits by libosmocore (Debian: libosmocore-dev). Its rows are those of peers.c. */
+/* The coder, the search for the nearest code block and the parity bits by libosmocore (Debian: libosmocore-dev). Its
+ * rows are those of peers.c. */
 #include <osmocom/core/bits.h>
 #include <osmocom/core/conv.h>
 #include <osmocom/core/crc16gen.h>

@@ -1,5 +1,6 @@
-/* The work that crates/dch_bench does on code blocks and radio frames, through the calls of include/dch.h. It reads the same inputs and makes the same
- * checksums, so that what the library adds to the proved code can be told. bench/library builds and runs it.
+/* The work that crates/dch_bench does on code blocks and radio frames, through the calls of include/dch.h. It reads the
+ * same inputs and makes the same checksums, so that what the library adds to the proved code can be told. bench/library
+ * builds and runs it.
  *
  *     library             checksums, as crates/dch_bench/stdout has them
  *     library measure     how much is done in a second

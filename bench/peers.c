@@ -1,4 +1,5 @@
-/* The work that crates/dch_bench does on single code blocks and words, in plain C, for comparison. It reads the same inputs and makes the same checksums.
+/* The work that crates/dch_bench does on single code blocks and words, in plain C, for comparison. It reads the same
+ * inputs and makes the same checksums.
  *
  *     cc -O3 -march=x86-64-v2 -o /tmp/peers bench/peers.c
  *     /tmp/peers            checksums, as crates/dch_bench/stdout has them
@@ -6,9 +7,9 @@
  */
 #include "work.h"
 
-/* The Viterbi search in costs of 16 bits, back from the end of the tail, so that of several nearest blocks the first in text order is found. The least cost is
- * taken off at times. States 2i and 2i + 1 lead to i by input 0 and to i + 128 by input 1; all generators have their first and last tap, so that two costs serve
- * the four branches. */
+/* The Viterbi search in costs of 16 bits, back from the end of the tail, so that of several nearest blocks the first in
+ * text order is found. The least cost is taken off at times. States 2i and 2i + 1 lead to i by input 0 and to i + 128
+ * by input 1; all generators have their first and last tap, so that two costs serve the four branches. */
 static uint16_t ones_at[2][3][STATES / 2]; /* all bits set where input 0 in state 2i gives output 1 */
 static uint16_t rows[STEPS + 1][STATES];
 
@@ -119,7 +120,8 @@ static void find(const uint8_t *received, uint32_t *index, uint32_t *distance)
     *distance = best / 1024;
 }
 
-/* The parity of TS 25.212 4.2.1, eight bits at a time by a table over a register whose highest bit is the next to leave. */
+/* The parity of TS 25.212 4.2.1, eight bits at a time by a table over a register whose highest bit is the next to
+ * leave. */
 static uint32_t crc_tables[4][256];
 
 static void make_tables(void)

@@ -1,4 +1,5 @@
-/* What the programs of this folder share: the inputs of crates/dch_bench, the encoder that makes them, and the measure. */
+/* What the programs of this folder share: the inputs of crates/dch_bench, the encoder that makes them, and the
+ * measure. */
 #include <stdint.h>
 #include <stdio.h>
 #include <string.h>
@@ -58,7 +59,8 @@ static void encode(int rate, const uint8_t *restrict block, uint8_t *restrict ou
         }
 }
 
-/* The generators of rate 1/2 and of rate 1/3, in octal as TS 25.212 4.2.3.1 has them, and the terms of each parity polynomial below its highest. */
+/* The generators of rate 1/2 and of rate 1/3, in octal as TS 25.212 4.2.3.1 has them, and the terms of each parity
+ * polynomial below its highest. */
 static const unsigned generators[2][3] = { { 0561, 0753, 0 }, { 0557, 0663, 0711 } };
 static const uint32_t polynomials[4][2] = { { 8, 0x9b }, { 12, 0x80f }, { 16, 0x1021 }, { 24, 0x800063 } };
 

@@ -1,5 +1,6 @@
-/* The block error ratio (BLER) of a transport channel over a channel with bit errors: transport blocks of 244 bits with 12
-   parity bits, the convolutional code of rate 1/3, and coded bits of which some arrive wrong (TS 25.212 4.2.1, 4.2.3.1).
+/* The block error ratio (BLER) of a transport channel over a channel with bit errors: transport blocks of 244 bits with
+   12 parity bits, the convolutional code of rate 1/3, and coded bits of which some arrive wrong (TS 25.212 4.2.1,
+   4.2.3.1).
 
        tools/install /tmp/dch
        cc examples/bler.c $(PKG_CONFIG_PATH=/tmp/dch/lib/pkgconfig pkg-config --cflags --libs dch) -o bler

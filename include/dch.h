@@ -185,8 +185,8 @@ typedef struct dch_tti {
     size_t size;
 } dch_tti;
 
-/* Reads the TTI of a channel that the last radio frame ends (TS 25.212 4.2, read backwards): the bits of its blocks, one
-   block after another, at the front of blocks, and for each at the front of good 1 where its parity fits, else 0.
+/* Reads the TTI of a channel that the last radio frame ends (TS 25.212 4.2, read backwards): the bits of its blocks,
+   one block after another, at the front of blocks, and for each at the front of good 1 where its parity fits, else 0.
    DCH_CLOSED, DCH_OTHER_KIND. DCH_BAD_CODE: no such direction or channel. DCH_BAD_TTI: *tti tells the frame, and the
    rest of it stays. DCH_SHORT: *tti tells what was read, and blocks or good is shorter; both stay. */
 uint8_t dch_channels_read(dch_handle *handle, uint8_t direction, uint8_t channel, uint8_t *blocks, size_t blocks_len,
@@ -194,9 +194,9 @@ uint8_t dch_channels_read(dch_handle *handle, uint8_t direction, uint8_t channel
 
 /* ---- Nodes: network controller, terminal and Node B ---- */
 
-/* Opens a node. The text is that of a configuration as `dch check` reads it, and behind a line `--- N` maybe a second one
-   that becomes active at radio frame N. The first radio frame has CFN first_cfn, a multiple of 8. All memory is taken
-   now; that for what a node tells is touched only as far as it is used.
+/* Opens a node. The text is that of a configuration as `dch check` reads it, and behind a line `--- N` maybe a second
+   one that becomes active at radio frame N. The first radio frame has CFN first_cfn, a multiple of 8. All memory is
+   taken now; that for what a node tells is touched only as far as it is used.
    DCH_BUSY. DCH_BAD_CODE: no such CFN. DCH_NO_MEMORY, DCH_REFUSED, DCH_SHORT: as dch_channels_open. */
 uint8_t dch_rnc_open(dch_handle *handle, const uint8_t *text, size_t text_len, uint8_t first_cfn, uint8_t *why,
                      size_t why_len, dch_refusal *refusal);
@@ -205,9 +205,9 @@ uint8_t dch_ue_open(dch_handle *handle, const uint8_t *text, size_t text_len, ui
 uint8_t dch_nodeb_open(dch_handle *handle, const uint8_t *text, size_t text_len, uint8_t first_cfn, uint8_t *why,
                        size_t why_len, dch_refusal *refusal);
 
-/* The events. A network controller takes unit, unit_bits, block, iub, tick and change; a terminal unit, unit_bits, block,
-   phy, miss, tick and change; a Node B iub, down, phy, miss and change. A call is one event, and the node tells what it
-   does by values, which wait until they are pulled; no event is taken before all are.
+/* The events. A network controller takes unit, unit_bits, block, iub, tick and change; a terminal unit, unit_bits,
+   block, phy, miss, tick and change; a Node B iub, down, phy, miss and change. A call is one event, and the node tells
+   what it does by values, which wait until they are pulled; no event is taken before all are.
    Of each: DCH_CLOSED. DCH_OTHER_KIND: the handle holds no node that takes this event. DCH_QUEUE_FULL. */
 
 /* Offers a unit of octets to a bearer of acknowledged or unacknowledged mode (TS 25.322). One of no octets or more than
@@ -227,8 +227,8 @@ uint8_t dch_node_block(dch_handle *handle, uint16_t combination, uint8_t on);
    Node B. DCH_BAD_CODE: no such set. */
 uint8_t dch_node_iub(dch_handle *handle, uint8_t set, const uint8_t *frame, size_t frame_len);
 
-/* Takes the radio frame of the CFN that comes, its TFCI bits and its cells of '0', '1' and '-' (TS 25.212), or that it is
-   missing. At a Node B that passes 10 ms.
+/* Takes the radio frame of the CFN that comes, its TFCI bits and its cells of '0', '1' and '-' (TS 25.212), or that it
+   is missing. At a Node B that passes 10 ms.
    tfci_len: the TFCI bits of the direction. cells_len: at most 57,600.
    DCH_BAD_SIZE: another length. DCH_BAD_LETTER. */
 uint8_t dch_node_phy(dch_handle *handle, const uint8_t *tfci, size_t tfci_len, const uint8_t *cells, size_t cells_len);

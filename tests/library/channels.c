@@ -1,6 +1,7 @@
-/* Transport channels: what a command wrote of a case is read from its radio frames, and sent again cell by cell. Words: the direction (`up` with the cases
-   of ue and link, `down` with those of nodeb and link), and the cases without their ending. A configuration that is refused has the line that the command wrote.
-   Without words: each status, and that nothing is written with another one than the header says. */
+/* Transport channels: what a command wrote of a case is read from its radio frames, and sent again cell by cell. Words:
+   the direction (`up` with the cases of ue and link, `down` with those of nodeb and link), and the cases without their
+   ending. A configuration that is refused has the line that the command wrote. Without words: each status, and that
+   nothing is written with another one than the header says. */
 #include "check.h"
 
 enum { ROOM = 1 << 20, FRAMES = 64, CHANNELS = 8 };

@@ -1,5 +1,6 @@
-/* Random calls with random arguments, and handles that are closed, open or of another kind; among them three nodes that give their frames on to each other, with
-   random damage, and go over to their second configuration. Words: seconds, calls, seed, and configurations, of which what follows a line --- is passed over. */
+/* Random calls with random arguments, and handles that are closed, open or of another kind; among them three nodes that
+   give their frames on to each other, with random damage, and go over to their second configuration. Words: seconds,
+   calls, seed, and configurations, of which what follows a line --- is passed over. */
 #include "check.h"
 #include <time.h>
 
@@ -152,7 +153,8 @@ static void phy_arrives(dch_handle *node) {
     pull_all(node);
 }
 
-/* A radio frame passes at three nodes, with units for them, as in `dch link`. Where they are closed, they are opened for the same configuration. */
+/* A radio frame passes at three nodes, with units for them, as in `dch link`. Where they are closed, they are opened
+   for the same configuration. */
 static void pass(uint8_t *text) {
     if (!nodes[RNC].is_open || !nodes[UE].is_open || !nodes[NODE_B].is_open || !pick(60)) {
         dch_refusal refusal;

@@ -1,7 +1,8 @@
-/* Nodes: each line of a case of rnc, ue or nodeb is an event, and what the node tells is what the command wrote. The cases of link run three nodes, whose frames
-   are given on here, with the damage of the case. Words: the command, and the cases of any folder, each without its ending. Words of a case of its own (`--start N`,
-   `--quiet`) stand in NAME.args, a word a line, or else in the file `words` beside it. A case whose words are of another command is passed over.
-   Without words: each status, and that nothing changed with another one than DCH_DONE. */
+/* Nodes: each line of a case of rnc, ue or nodeb is an event, and what the node tells is what the command wrote. The
+   cases of link run three nodes, whose frames are given on here, with the damage of the case. Words: the command, and
+   the cases of any folder, each without its ending. Words of a case of its own (`--start N`, `--quiet`) stand in
+   NAME.args, a word a line, or else in the file `words` beside it. A case whose words are of another command is passed
+   over. Without words: each status, and that nothing changed with another one than DCH_DONE. */
 #include "check.h"
 
 enum { ROOM = 1 << 20 };
@@ -22,7 +23,8 @@ static size_t load(const char *name, const char *ending, char *to) {
     return len;
 }
 
-/* The words of a case: those of NAME.args, or else those behind its name in the file `words`, each behind a space; empty where it has none of its own. */
+/* The words of a case: those of NAME.args, or else those behind its name in the file `words`, each behind a space;
+   empty where it has none of its own. */
 static char words_given[300];
 static void load_words(const char *name) {
     char path[300], line[300];
